@@ -1,0 +1,24 @@
+-- Rows of words: a table as a row, rows one after another, a part of a row, and a table read off a row.
+use Prim.Native.Nat.{ℕ, zero, suc}
+use mathlib.Core.List.{List, [], _∷_, _++_}
+use lib.ListN.{take, drop}
+use lib.Dec.{ltb}
+use Rattle.rules.specs.Tables.{if_then_else_}
+
+-- The first m entries of a table, in order.
+unfoldable pub row : ℕ → (ℕ → ℕ) → List ℕ
+row zero table = []
+row (suc m) table = table 0 ∷ row m (λ c. table (suc c))
+
+-- k rows, one after another.
+unfoldable pub rows : ℕ → (ℕ → List ℕ) → List ℕ
+rows zero each = []
+rows (suc k) each = rows k each ++ each k
+
+-- So many words from a place on.
+abbrev pub part : ℕ → ℕ → List ℕ → List ℕ
+part from long words = take long (drop from words)
+
+-- The table below m, and the same entry everywhere beyond.
+unfoldable pub below {ℓ} : {A : Type ℓ} → ℕ → A → (ℕ → A) → ℕ → A
+below m rest table y = if ltb y m then (table y) else rest

@@ -1,0 +1,50 @@
+-- From words to the register that they say, and from a register to its words. A view is a whole table: beyond the register's
+-- cells and handlers it holds what a fresh register holds.
+use Prim.Native.Nat.{ℕ}
+use mathlib.Core.Bool.{false}
+use mathlib.Core.List.{List, [], _∷_, _++_}
+use lib.Dec.{eqb}
+use Rattle.rules.specs.Register.{Setting, Cell, Handler, Register, zeros, idle, blank}
+use Rattle.layout.specs.Bits.{bit, hasBit, mask}
+use Rattle.layout.specs.Rows.{row, rows, below}
+use Rattle.layout.specs.Places.{cellPart, handlerPart, valueIn, numberIn, phaseIn, readSetIn, writtenSetIn, handlerNumberIn, transactionNumberIn, copyIn}
+
+-- The rules over words: values are words, and an unwritten cell and a cleared copy hold 0.
+abbrev pub wordSetting : ℕ → Setting ℕ
+wordSetting m = record { empty = 0; cellCount = m }
+
+-- The cell that some words say.
+unfoldable pub viewCell : ℕ → List ℕ → Cell ℕ
+viewCell m cell = record { value = valueIn cell; numbers = below m 0 (numberIn cell) }
+
+-- The handler that a block says.
+unfoldable pub viewHandler : ℕ → List ℕ → Handler ℕ
+viewHandler m block = record {
+  opened = eqb (phaseIn block) 1;
+  readSet = below m false (hasBit (readSetIn block));
+  writtenSet = below m false (hasBit (writtenSetIn block));
+  numbers = below m 0 (handlerNumberIn block);
+  transaction = below m 0 (transactionNumberIn m block);
+  copies = below m 0 (copyIn m block);
+}
+
+-- The register of m cells and n handlers that the words say.
+unfoldable pub view : ℕ → ℕ → List ℕ → Register ℕ
+view m n words = record {
+  cells = below m (blank (wordSetting m)) (λ c. viewCell m (cellPart m words c));
+  handlers = below n (idle (wordSetting m) zeros) (λ i. viewHandler m (handlerPart m words i));
+}
+
+-- The words of a cell.
+unfoldable pub pourCell : ℕ → Cell ℕ → List ℕ
+pourCell m c = c .value ∷ row m (c .numbers)
+
+-- The words of a handler.
+unfoldable pub pourHandler : ℕ → Handler ℕ → List ℕ
+pourHandler m h =
+    bit (h .opened) ∷ mask m (h .readSet) ∷ mask m (h .writtenSet) ∷
+    (row m (h .numbers) ++ (row m (h .transaction) ++ row m (h .copies)))
+
+-- The words of a register of m cells and n handlers, and no more.
+unfoldable pub pour : ℕ → ℕ → Register ℕ → List ℕ
+pour m n r = m ∷ n ∷ (rows m (λ c. pourCell m (r .cells c)) ++ rows n (λ i. pourHandler m (r .handlers i)))

@@ -1,0 +1,3 @@
+-- The promises of the register's public operations.
+pub mod Opening
+pub mod Stepping

@@ -1,0 +1,28 @@
+-- What a step promises, for all words, handlers, codes and values: its reply, and every word afterwards.
+use Prim.Native.Nat.{ℕ}
+use mathlib.Core.Path.{_≡_}
+use mathlib.Core.List.{List}
+use Rattle.rules.specs.Replies.{Reply, reported}
+use Rattle.rules.specs.Register.{Register}
+use Rattle.rules.specs.Turn.{Turn, turn}
+use Rattle.layout.specs.Places.{cellsOf, handlersOf}
+use Rattle.layout.specs.View.{wordSetting, view}
+use Rattle.layout.specs.WellFormed.{isWellFormed}
+use Rattle.promises.specs.Opening.{holding}
+
+-- The rules' turn on the register that the words say.
+unfoldable pub turnOf : List ℕ → ℕ → ℕ → ℕ → Turn ℕ
+turnOf words handler code value =
+    let m = cellsOf words in
+    let n = handlersOf words in
+    turn (wordSetting m) n (isWellFormed words) (view m n words) handler code value
+
+-- The words after a step: a refusal changes nothing, and else they hold the rules' register.
+unfoldable pub stepWords : List ℕ → Reply ℕ → Register ℕ → List ℕ
+stepWords words (Reply.refused refusal) r = words
+stepWords words (reported report) r = holding words (cellsOf words) (handlersOf words) r
+
+-- The promise of a step.
+pub record StepPromise (words : List ℕ) (handler code value : ℕ) (reply : Reply ℕ) (after : List ℕ) : Type 0 where
+  pub replied : reply ≡ turnOf words handler code value .reply
+  pub left : after ≡ stepWords words (turnOf words handler code value .reply) (turnOf words handler code value .after)

@@ -1,0 +1,1 @@
+// What opening a register and a step of it promise of any words: definitions in specs/, laws in proofs/, no code.

@@ -1,0 +1,2 @@
+-- The laws of the rules.
+pub mod Tables

@@ -1,0 +1,129 @@
+-- Laws of tests, of what is lowest below a number of places, and of tables.
+use Prim.Native.Nat.{ℕ, zero, suc, _<_}
+use native.Mathlib.Omega.{arith}
+use mathlib.Core.Path.{_≡_, refl, sym, ap, _∙_, fun-ext, subst}
+use mathlib.Core.Bool.{Bool, true, false, not, _&&_, _||_, true≢false, false≢true}
+use mathlib.Core.Option.{Option, none, some}
+use lib.Dec.{eqb}
+use borrow.Author.Tests.{eqb-true, eqb-false, eq-eqb, ne-eqb}
+use Rattle.rules.specs.Tables.{if_then_else_, put, orElse, lowest, isFound, someBelow}
+
+-- ── Tests ─────────────────────────────────────────────────────────────
+
+-- A test holds or it does not.
+pub by {ℓ} : {A : Type ℓ} (b : Bool) → (b ≡ true → A) → (b ≡ false → A) → A
+by true f g = f refl
+by false f g = g refl
+
+-- A test that both holds and does not proves anything.
+pub both-ways {ℓ} : {A : Type ℓ} {b : Bool} → b ≡ true → b ≡ false → A
+both-ways p q = absurd (true≢false (sym p ∙ q))
+
+pub and-left : (a b : Bool) → a && b ≡ true → a ≡ true
+and-left true b e = refl
+and-left false b e = e
+
+pub and-right : (a b : Bool) → a && b ≡ true → b ≡ true
+and-right true b e = e
+and-right false b e = absurd (false≢true e)
+
+pub and-both : (a b : Bool) → a ≡ true → b ≡ true → a && b ≡ true
+and-both true b p q = q
+and-both false b p q = p
+
+pub or-left : (a b : Bool) → a || b ≡ false → a ≡ false
+or-left true b e = e
+or-left false b e = refl
+
+pub or-right : (a b : Bool) → a || b ≡ false → b ≡ false
+or-right true b e = absurd (true≢false e)
+or-right false b e = e
+
+pub or-neither : (a b : Bool) → a ≡ false → b ≡ false → a || b ≡ false
+or-neither true b p q = p
+or-neither false b p q = q
+
+-- Tests that imply each other are the same.
+pub same-test : (a b : Bool) → (a ≡ true → b ≡ true) → (b ≡ true → a ≡ true) → a ≡ b
+same-test true b f g = sym (f refl)
+same-test false true f g = g refl
+same-test false false f g = refl
+
+-- ── The lowest place ──────────────────────────────────────────────────
+
+-- Something was found, or nothing was.
+pub found {ℓ} : {A B : Type ℓ} (o : Option B) → ((b : B) → o ≡ some b → A) → (o ≡ none → A) → A
+found none f g = g refl
+found (some b) f g = f b refl
+
+some≢none : {A : Type 0} (a : A) → some a ≡ none → ⊥
+some≢none a e = let z : _≡_ {A = ℕ} 0 1 = cc in omega arith
+
+-- y is the lowest place below m that passes.
+pub record Lowest (m : ℕ) (test : ℕ → Bool) (y : ℕ) : Type 0 where
+  pub below : y < m
+  pub passes : test y ≡ true
+  pub first : (z : ℕ) → z < y → test z ≡ false
+
+pub lowest-none : (m : ℕ) (test : ℕ → Bool) → lowest m test ≡ none → (z : ℕ) → z < m → test z ≡ false
+unfolding lowest orElse
+lowest-none zero test e z l = absurd (omega arith)
+lowest-none (suc m) test e z l = found (lowest m test)
+    (λ y f. absurd (some≢none y (rw f at e)))
+    (λ f. by (test m)
+    (λ q. absurd (some≢none m (rw (f, q) at e)))
+    (λ q. by (eqb z m) (λ k. rw (eqb-true z m k) q) (λ k. lowest-none m test f z (omega (arith, eqb-false z m k)))))
+
+pub lowest-some : (m : ℕ) (test : ℕ → Bool) (y : ℕ) → lowest m test ≡ some y → Lowest m test y
+unfolding lowest orElse
+lowest-some zero test y e = absurd (some≢none y (sym e))
+lowest-some (suc m) test y e = found (lowest m test)
+    (λ k f. let q : Lowest m test y = lowest-some m test y (f ∙ (rw f at e)) in record { below = omega (arith, q .below); passes = q .passes; first = q .first })
+    (λ f. by (test m)
+    (λ q. let g : m ≡ y = same-place m y (rw (f, q) at e) in
+    record { below = omega arith; passes = rw (← g) q; first = λ z l. lowest-none m test f z (omega arith) })
+    (λ q. absurd (some≢none y (sym (rw (f, q) at e)))))
+  where
+    same-place : (a b : ℕ) → some a ≡ some b → a ≡ b
+    same-place a b q = cc
+
+-- Some place passes: there is one.
+pub some-true : (m : ℕ) (test : ℕ → Bool) → someBelow m test ≡ true → (y : ℕ) × (y < m) × (test y ≡ true)
+unfolding someBelow
+some-true m test e = found (lowest m test)
+    (λ y q. let k = lowest-some m test y q in (y, k .below, k .passes))
+    (λ q. absurd (false≢true (rw q at e)))
+
+-- A place passes: some place does.
+pub some-from : (m : ℕ) (test : ℕ → Bool) (y : ℕ) → y < m → test y ≡ true → someBelow m test ≡ true
+unfolding someBelow
+some-from m test y h e = found (lowest m test) (λ z q. rw q) (λ q. both-ways e (lowest-none m test q y h))
+
+-- No place passes: this one does not.
+pub some-false : (m : ℕ) (test : ℕ → Bool) → someBelow m test ≡ false → (y : ℕ) → y < m → test y ≡ false
+some-false m test e y h = by (test y) (λ q. both-ways (some-from m test y h q) e) (λ q. q)
+
+-- Each place fails: no place passes.
+pub some-none : (m : ℕ) (test : ℕ → Bool) → ((y : ℕ) → y < m → test y ≡ false) → someBelow m test ≡ false
+some-none m test h = by (someBelow m test) (λ q. let k = some-true m test q in both-ways (k .2) (h (k .0) (k .1))) (λ q. q)
+
+-- ── Tables ────────────────────────────────────────────────────────────
+
+-- What holds of the new entry, and of each other, holds of the table.
+pub put-each {ℓ} : {A : Type ℓ} (Q : ℕ → A → Type 0) (f : ℕ → A) (i : ℕ) (a : A)
+    → Q i a → ((j : ℕ) → (j ≡ i → ⊥) → Q j (f j)) → (j : ℕ) → Q j (put f i a j)
+unfolding put
+put-each Q f i a h g j = by (eqb j i) (λ e. rw e (subst (λ k. Q k a) (sym (eqb-true j i e)) h)) (λ e. rw e (g j (eqb-false j i e)))
+
+pub put-here {ℓ} : {A : Type ℓ} (f : ℕ → A) (i : ℕ) (a : A) → put f i a i ≡ a
+unfolding put
+put-here f i a = rw (eq-eqb i i refl)
+
+pub put-other {ℓ} : {A : Type ℓ} (f : ℕ → A) (i : ℕ) (a : A) (j : ℕ) → (j ≡ i → ⊥) → put f i a j ≡ f j
+unfolding put
+put-other f i a j ne = rw (ne-eqb j i ne)
+
+-- A table with an entry put where it stands already is the same table.
+pub put-same {ℓ} : {A : Type ℓ} (f : ℕ → A) (i : ℕ) (a : A) → f i ≡ a → put f i a ≡ f
+unfolding put
+put-same f i a q = fun-ext (λ j. by (eqb j i) (λ e. rw e (sym (ap f (eqb-true j i e) ∙ q))) (λ e. rw e))

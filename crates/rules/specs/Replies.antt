@@ -1,0 +1,80 @@
+-- Replies: outcomes with their reasons, refusals, and document 01's numbers for them. Nothing of a reply is lost in its
+-- numbers (proofs/Numbers.antt).
+use Prim.Native.Nat.{ℕ}
+
+-- Why a transaction was aborted.
+pub data Reason : Type 0 where
+  -- the value read depends on a later version of a cell already read
+  torn : Reason
+  -- a cell that was read has been written since
+  overtaken : Reason
+  -- a written cell's number can't be raised
+  spent : Reason
+
+-- What a step that is taken comes to.
+pub data Outcome (W : Type 0) : Type 0 where
+  ok : Outcome W
+  value : W → Outcome W
+  committed : Outcome W
+  aborted : Reason → Outcome W
+
+-- A report names handler and step, and holds an outcome whose abort case holds its reason.
+pub record Report (W : Type 0) : Type 0 where
+  pub handler : ℕ
+  pub code : ℕ
+  pub outcome : Outcome W
+
+-- Why a step or an opening is refused.
+pub data Refusal : Type 0 where
+  notWellFormed noHandler noCell alreadyOpen notOpen unknownStep : Refusal
+  outOfRange tooShort : Refusal
+
+-- The reply to a step: a report, or a refusal.
+pub data Reply (W : Type 0) : Type 0 where
+  reported : Report W → Reply W
+  refused : Refusal → Reply W
+
+-- The reply to an opening: ready, or a refusal.
+pub data Opening : Type 0 where
+  ready : Opening
+  refused : Refusal → Opening
+
+-- ── Numbers ───────────────────────────────────────────────────────────
+
+-- The number of an abort's reason.
+unfoldable pub reasonNumber : Reason → ℕ
+reasonNumber torn = 1
+reasonNumber overtaken = 2
+reasonNumber spent = 3
+
+-- The number of a refusal.
+unfoldable pub refusalNumber : Refusal → ℕ
+refusalNumber notWellFormed = 10
+refusalNumber noHandler = 11
+refusalNumber noCell = 12
+refusalNumber alreadyOpen = 13
+refusalNumber notOpen = 14
+refusalNumber unknownStep = 15
+refusalNumber outOfRange = 20
+refusalNumber tooShort = 21
+
+-- An answer in numbers: its kind (0 ok, 1 value, 2 commit, 3 abort, 4 refused), and its value or number, 0 where there is none.
+pub record Numbers : Type 0 where
+  pub kind : ℕ
+  pub detail : ℕ
+
+-- An outcome in numbers, where the values are numbers.
+unfoldable pub outcomeNumbers : Outcome ℕ → Numbers
+outcomeNumbers ok = record { kind = 0; detail = 0 }
+outcomeNumbers (value v) = record { kind = 1; detail = v }
+outcomeNumbers committed = record { kind = 2; detail = 0 }
+outcomeNumbers (aborted reason) = record { kind = 3; detail = reasonNumber reason }
+
+-- A refusal in numbers.
+unfoldable pub refusalNumbers : Refusal → Numbers
+refusalNumbers refusal = record { kind = 4; detail = refusalNumber refusal }
+
+-- A reply in numbers.
+unfoldable pub replyNumbers : Reply ℕ → Numbers
+replyNumbers (reported report) = outcomeNumbers (report .outcome)
+replyNumbers (refused refusal) = refusalNumbers refusal
