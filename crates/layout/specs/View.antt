@@ -7,7 +7,8 @@ use lib.Dec.{eqb}
 use Rattle.rules.specs.Register.{Setting, Cell, Handler, Register, zeros, idle, blank}
 use Rattle.layout.specs.Bits.{bit, hasBit, mask}
 use Rattle.layout.specs.Rows.{row, rows, below}
-use Rattle.layout.specs.Places.{cellPart, handlerPart, valueIn, numberIn, phaseIn, readSetIn, writtenSetIn, handlerNumberIn, transactionNumberIn, copyIn}
+use Rattle.layout.specs.Places.{cellPart, handlerPart, valueIn, numberIn, phaseIn, readSetIn, writtenSetIn, handlerNumberIn}
+use Rattle.layout.specs.Places.{transactionNumberIn, copyIn}
 
 -- The rules over words: values are words, and an unwritten cell and a cleared copy hold 0.
 abbrev pub wordSetting : ℕ → Setting ℕ

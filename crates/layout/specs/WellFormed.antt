@@ -9,7 +9,8 @@ use lib.Dec.{leb, ltb}
 use Rattle.rules.specs.Tables.{someBelow}
 use Rattle.rules.specs.Checks.{inRange}
 use Rattle.layout.specs.Bits.{hasBit}
-use Rattle.layout.specs.Places.{cellsOf, handlersOf, size, cellPart, handlerPart, numberIn, phaseIn, readSetIn, writtenSetIn, handlerNumberIn, transactionNumberIn}
+use Rattle.layout.specs.Places.{cellsOf, handlersOf, size, cellPart, handlerPart, numberIn, phaseIn, readSetIn, writtenSetIn}
+use Rattle.layout.specs.Places.{handlerNumberIn, transactionNumberIn}
 
 -- No bit of the word is set at m or above.
 abbrev pub NoBitFrom : ℕ → ℕ → Type 0

@@ -1,2 +1,7 @@
 -- The laws of the rules.
 pub mod Tables
+pub mod Numbers
+pub mod Given
+pub mod Properties
+pub mod Aborts
+pub mod OnTables

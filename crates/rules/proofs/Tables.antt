@@ -3,7 +3,7 @@ use Prim.Native.Nat.{ℕ, zero, suc, _<_}
 use native.Mathlib.Omega.{arith}
 use mathlib.Core.Path.{_≡_, refl, sym, ap, _∙_, fun-ext, subst}
 use mathlib.Core.Bool.{Bool, true, false, not, _&&_, _||_, true≢false, false≢true}
-use mathlib.Core.Option.{Option, none, some}
+use mathlib.Core.Option.{Option, none, some, Option·some-injective, Option·some-ne-none}
 use lib.Dec.{eqb}
 use borrow.Author.Tests.{eqb-true, eqb-false, eq-eqb, ne-eqb}
 use Rattle.rules.specs.Tables.{if_then_else_, put, orElse, lowest, isFound, someBelow}
@@ -56,9 +56,6 @@ pub found {ℓ} : {A B : Type ℓ} (o : Option B) → ((b : B) → o ≡ some b 
 found none f g = g refl
 found (some b) f g = f b refl
 
-some≢none : {A : Type 0} (a : A) → some a ≡ none → ⊥
-some≢none a e = let z : _≡_ {A = ℕ} 0 1 = cc in omega arith
-
 -- y is the lowest place below m that passes.
 pub record Lowest (m : ℕ) (test : ℕ → Bool) (y : ℕ) : Type 0 where
   pub below : y < m
@@ -69,23 +66,21 @@ pub lowest-none : (m : ℕ) (test : ℕ → Bool) → lowest m test ≡ none →
 unfolding lowest orElse
 lowest-none zero test e z l = absurd (omega arith)
 lowest-none (suc m) test e z l = found (lowest m test)
-    (λ y f. absurd (some≢none y (rw f at e)))
+    (λ y f. absurd (Option·some-ne-none y (rw f at e)))
     (λ f. by (test m)
-    (λ q. absurd (some≢none m (rw (f, q) at e)))
+    (λ q. absurd (Option·some-ne-none m (rw (f, q) at e)))
     (λ q. by (eqb z m) (λ k. rw (eqb-true z m k) q) (λ k. lowest-none m test f z (omega (arith, eqb-false z m k)))))
 
 pub lowest-some : (m : ℕ) (test : ℕ → Bool) (y : ℕ) → lowest m test ≡ some y → Lowest m test y
 unfolding lowest orElse
-lowest-some zero test y e = absurd (some≢none y (sym e))
+lowest-some zero test y e = absurd (Option·some-ne-none y (sym e))
 lowest-some (suc m) test y e = found (lowest m test)
-    (λ k f. let q : Lowest m test y = lowest-some m test y (f ∙ (rw f at e)) in record { below = omega (arith, q .below); passes = q .passes; first = q .first })
+    (λ k f. let q : Lowest m test y = lowest-some m test y (f ∙ (rw f at e)) in
+    record { below = omega (arith, q .below); passes = q .passes; first = q .first })
     (λ f. by (test m)
-    (λ q. let g : m ≡ y = same-place m y (rw (f, q) at e) in
+    (λ q. let g : m ≡ y = Option·some-injective m y (rw (f, q) at e) in
     record { below = omega arith; passes = rw (← g) q; first = λ z l. lowest-none m test f z (omega arith) })
-    (λ q. absurd (some≢none y (sym (rw (f, q) at e)))))
-  where
-    same-place : (a b : ℕ) → some a ≡ some b → a ≡ b
-    same-place a b q = cc
+    (λ q. absurd (Option·some-ne-none y (sym (rw (f, q) at e)))))
 
 -- Some place passes: there is one.
 pub some-true : (m : ℕ) (test : ℕ → Bool) → someBelow m test ≡ true → (y : ℕ) × (y < m) × (test y ≡ true)

@@ -5,5 +5,7 @@ pub mod Codes
 pub mod Replies
 pub mod Register
 pub mod Checks
+pub mod Given
 pub mod Figure
 pub mod Turn
+pub mod Cases

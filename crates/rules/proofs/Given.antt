@@ -1,0 +1,182 @@
+-- The ordered lists of checks give each number exactly when Given.antt says, and let a step through exactly when it is free.
+use Prim.Native.Nat.{ℕ, _≤_, _<_}
+use native.Mathlib.Omega.{arith}
+use mathlib.Core.Path.{_≡_, refl, sym, _∙_, subst}
+use mathlib.Core.Bool.{Bool, true, false, not, _&&_}
+use mathlib.Core.List.{List, [], _∷_}
+use mathlib.Core.Logic.{_↔_, _⊎_, inl, inr, ⊎-elim, ⊎-map}
+use mathlib.Core.Option.{Option, none, some, Option·some-injective, Option·some-ne-none}
+use lib.Dec.{leb, ltb}
+use borrow.Author.Tests.{leb-true, leb-false, le-leb, lt-leb, ltb-true, ltb-false, lt-ltb, le-ltb, not-true, not-false}
+use Rattle.rules.specs.Codes.{Step, begin, try, read, write, Kind, known, unknown}
+use Rattle.rules.specs.Replies.{Refusal, notWellFormed, noHandler, noCell, alreadyOpen, notOpen, unknownStep, outOfRange, tooShort}
+use Rattle.rules.specs.Checks.{Check, _when_, firstHit, Asked, isBeyond, isBegin, stepChecks, inRange, openingChecks}
+use Rattle.rules.specs.Given.{Within, Beyond, Late, Heard, Placed, Given, Free, InRange, OpeningGiven}
+use Rattle.rules.proofs.Tables.{by, and-left, and-right, and-both, both-ways}
+
+-- Where each G gives its own answer, and one G holds or there is no answer, an answer is given exactly when its G holds.
+pub exactly : {A : Type 0} {answer : Option A} (G : A → Type 0) → ((f : A) → G f → answer ≡ some f)
+    → ((f : A) × G f) ⊎ (answer ≡ none) → (f : A) → (answer ≡ some f) ↔ G f
+exactly {answer = answer} G hits decided f = (
+  λ e. ⊎-elim (λ g. same e (g .0) (g .1)) (λ q. absurd (Option·some-ne-none f (sym e ∙ q))) decided,
+  hits f,
+)
+  where
+    same : answer ≡ some f → (other : _) → G other → G f
+    same e other g = subst G (Option·some-injective other f (sym (hits other g) ∙ e)) g
+
+-- ── Cells named by a step ─────────────────────────────────────────────
+
+beyond-test : (m : ℕ) (s : Step) → Beyond m s → isBeyond m (known s) ≡ true
+beyond-test m begin b = absurd b
+beyond-test m try b = absurd b
+beyond-test m (read x) b = le-leb m x b
+beyond-test m (write x) b = le-leb m x b
+
+within-test : (m : ℕ) (s : Step) → Within m s → isBeyond m (known s) ≡ false
+within-test m begin w = refl
+within-test m try w = refl
+within-test m (read x) w = lt-leb m x w
+within-test m (write x) w = lt-leb m x w
+
+test-beyond : (m : ℕ) (s : Step) → isBeyond m (known s) ≡ true → Beyond m s
+test-beyond m begin e = both-ways e refl
+test-beyond m try e = both-ways e refl
+test-beyond m (read x) e = leb-true m x e
+test-beyond m (write x) e = leb-true m x e
+
+test-within : (m : ℕ) (s : Step) → isBeyond m (known s) ≡ false → Within m s
+test-within m begin e = tt
+test-within m try e = tt
+test-within m (read x) e = leb-false m x e
+test-within m (write x) e = leb-false m x e
+
+-- ── What is so, the lists say ─────────────────────────────────────────
+
+module _ (a : Asked) where
+  unfoldable says : Option Refusal
+  says = firstHit (stepChecks a)
+
+  abbrev phaseChecks : Step → List (Check Refusal)
+  phaseChecks s = (alreadyOpen when (isBegin (known s) && a .opened)) ∷ (notOpen when (not (isBegin (known s)) && not (a .opened))) ∷ []
+
+  -- What the phase alone says of a step.
+  abbrev phased : Step → Option Refusal
+  phased s = firstHit (phaseChecks s)
+
+  -- A step that a handler of a well-formed register asks for is judged by its cell, and then by its phase.
+  heard-says : (s : Step) → Heard a s → says ≡ firstHit ((noCell when isBeyond (a .cellCount) (known s)) ∷ phaseChecks s)
+  unfolding says firstHit stepChecks
+  heard-says s h = rw (h .wellFormed, h .known, lt-leb (a .handlerCount) (a .handler) (h .handler))
+
+  placed-says : (s : Step) → Placed a s → says ≡ phased s
+  unfolding firstHit
+  placed-says s p = heard-says s (p .heard) ∙ rw (within-test (a .cellCount) s (p .cell))
+
+  -- A step that is given a number is refused with it.
+  given-says : (refusal : Refusal) → Given refusal a → says ≡ some refusal
+  unfolding says firstHit stepChecks
+  given-says notWellFormed e = rw e
+  given-says unknownStep (e, k) = rw (e, k)
+  given-says noHandler (s, e, k, l) = rw (e, k, le-leb (a .handlerCount) (a .handler) l)
+  given-says noCell (s, h, b) = heard-says s h ∙ rw (beyond-test (a .cellCount) s b)
+  given-says alreadyOpen (p, o) = placed-says begin p ∙ rw o
+  given-says notOpen (s, p, l, o) = placed-says s p ∙ late s l
+    where
+      late : (s : Step) → Late s → phased s ≡ some notOpen
+      late begin l = absurd l
+      late try l = rw o
+      late (read x) l = rw o
+      late (write x) l = rw o
+  given-says outOfRange g = absurd g
+  given-says tooShort g = absurd g
+
+  -- A step that is free passes every check.
+  free-passes : (s : Step) → Free a s → says ≡ none
+  unfolding firstHit
+  free-passes begin (p, o) = placed-says begin p ∙ rw o
+  free-passes try (p, o) = placed-says try p ∙ rw o
+  free-passes (read x) (p, o) = placed-says (read x) p ∙ rw o
+  free-passes (write x) (p, o) = placed-says (write x) p ∙ rw o
+
+  -- ── What the lists say is so ────────────────────────────────────────
+
+  -- Of every step one number is given, or it is free.
+  abbrev Verdict : Type 0
+  Verdict = ((refusal : Refusal) × Given refusal a) ⊎ ((s : Step) × Free a s)
+
+  phase-decides : (s : Step) → Placed a s → Verdict
+  phase-decides begin p = by (a .opened) (λ o. inl (alreadyOpen, (p, o))) (λ o. inr (begin, (p, o)))
+  phase-decides try p = by (a .opened) (λ o. inr (try, (p, o))) (λ o. inl (notOpen, (try, p, tt, o)))
+  phase-decides (read x) p = by (a .opened) (λ o. inr (read x, (p, o))) (λ o. inl (notOpen, (read x, p, tt, o)))
+  phase-decides (write x) p = by (a .opened) (λ o. inr (write x, (p, o))) (λ o. inl (notOpen, (write x, p, tt, o)))
+
+  cell-decides : (s : Step) → Heard a s → Verdict
+  cell-decides s h = by (isBeyond (a .cellCount) (known s))
+      (λ e. inl (noCell, (s, h, test-beyond (a .cellCount) s e)))
+      (λ e. phase-decides s (record { heard = h; cell = test-within (a .cellCount) s e }))
+
+  kind-decides : a .wellFormed ≡ true → (k : Kind) → a .kind ≡ k → Verdict
+  kind-decides e unknown q = inl (unknownStep, (e, q))
+  kind-decides e (known s) q = by (leb (a .handlerCount) (a .handler))
+      (λ l. inl (noHandler, (s, e, q, leb-true (a .handlerCount) (a .handler) l)))
+      (λ l. cell-decides s (record { wellFormed = e; known = q; handler = leb-false (a .handlerCount) (a .handler) l }))
+
+  verdict : Verdict
+  verdict = by (a .wellFormed) (λ e. kind-decides e (a .kind) refl) (λ e. inl (notWellFormed, e))
+
+-- The checks of a step give each number exactly then.
+pub given-exactly : (a : Asked) (refusal : Refusal) → (firstHit (stepChecks a) ≡ some refusal) ↔ Given refusal a
+unfolding says
+given-exactly a refusal = exactly (λ f. Given f a) (given-says a) (⊎-map (λ g. g) (λ f. free-passes a (f .0) (f .1)) (verdict a)) refusal
+
+-- The checks of a step let it through exactly when it is free.
+pub free-exactly : (a : Asked) → (firstHit (stepChecks a) ≡ none) ↔ ((s : Step) × Free a s)
+unfolding says
+free-exactly a = (
+  λ e. ⊎-elim (λ g. absurd (Option·some-ne-none (g .0) (sym (given-says a (g .0) (g .1)) ∙ e))) (λ f. f) (verdict a),
+  λ f. free-passes a (f .0) (f .1),
+)
+
+-- ── Opening ───────────────────────────────────────────────────────────
+
+-- The test of m and n answers exactly that they are in range.
+pub range-tested : (m n : ℕ) → (inRange m n ≡ true) ↔ InRange m n
+unfolding inRange
+range-tested m n = (
+  λ e. record {
+    someCell = leb-true 1 m (and-left (leb 1 m) _ (and-left (leb 1 m && leb m 32) _ e));
+    cells = leb-true m 32 (and-right (leb 1 m) _ (and-left (leb 1 m && leb m 32) _ e));
+    someHandler = leb-true 1 n (and-left (leb 1 n) _ (and-right (leb 1 m && leb m 32) _ e));
+    handlers = leb-true n 16 (and-right (leb 1 n) _ (and-right (leb 1 m && leb m 32) _ e));
+  },
+  λ r. and-both (leb 1 m && leb m 32) _
+      (and-both (leb 1 m) _ (le-leb 1 m (r .someCell)) (le-leb m 32 (r .cells)))
+      (and-both (leb 1 n) _ (le-leb 1 n (r .someHandler)) (le-leb n 16 (r .handlers))),
+)
+
+-- The checks of an opening give each number exactly then.
+pub opening-exactly : (m n long need : ℕ) (refusal : Refusal)
+    → (firstHit (openingChecks m n long need) ≡ some refusal) ↔ OpeningGiven refusal m n long need
+unfolding firstHit openingChecks
+opening-exactly m n long need = exactly (λ f. OpeningGiven f m n long need) hits decided
+  where
+    out : (InRange m n → ⊥) → inRange m n ≡ false
+    out o = by (inRange m n) (λ e. absurd (o (range-tested m n .0 e))) (λ e. e)
+
+    hits : (f : Refusal) → OpeningGiven f m n long need → firstHit (openingChecks m n long need) ≡ some f
+    hits notWellFormed g = absurd g
+    hits noHandler g = absurd g
+    hits noCell g = absurd g
+    hits alreadyOpen g = absurd g
+    hits notOpen g = absurd g
+    hits unknownStep g = absurd g
+    hits outOfRange o = rw (out o)
+    hits tooShort (r, l) = rw (range-tested m n .1 r, lt-ltb long need l)
+
+    decided : ((f : Refusal) × OpeningGiven f m n long need) ⊎ (firstHit (openingChecks m n long need) ≡ none)
+    decided = by (inRange m n)
+        (λ e. by (ltb long need)
+        (λ l. inl (tooShort, (range-tested m n .0 e, ltb-true long need l)))
+        (λ l. inr (rw (e, l))))
+        (λ e. inl (outOfRange, λ r. both-ways (range-tested m n .1 r) e))
