@@ -51,11 +51,13 @@ isGoodBlock m block =
     leb (phaseIn block) 1 && (ltb (readSetIn block) (2 ^ m) && (ltb (writtenSetIn block) (2 ^ m)
     && (numbersFit m (handlerNumberIn block) && numbersFit m (transactionNumberIn m block))))
 
--- The words are a register of m cells and n handlers.
+-- The words are a register of m cells and n handlers. Cells and handlers are looked at only where m and n are in range.
 unfoldable pub isRegister : ℕ → ℕ → List ℕ → Bool
 isRegister m n words =
-    inRange m n && (leb (size m n) (length words)
-    && (everyBelow m (λ c. numbersFit m (numberIn (cellPart m words c))) && everyBelow n (λ i. isGoodBlock m (handlerPart m words i))))
+    let cellsGood = everyBelow m (λ c. numbersFit m (numberIn (cellPart m words c))) in
+    let blocksGood = everyBelow n (λ i. isGoodBlock m (handlerPart m words i)) in
+    let restGood = leb (size m n) (length words) && (cellsGood && blocksGood) in
+    inRange m n && restGood
 
 -- The words are well formed.
 unfoldable pub isWellFormed : List ℕ → Bool

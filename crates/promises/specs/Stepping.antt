@@ -4,11 +4,19 @@ use mathlib.Core.Path.{_≡_}
 use mathlib.Core.List.{List}
 use Rattle.rules.specs.Replies.{Reply, reported}
 use Rattle.rules.specs.Register.{Register}
-use Rattle.rules.specs.Turn.{Turn, turn}
+use Rattle.rules.specs.Checks.{Asked}
+use Rattle.rules.specs.Turn.{Turn, asked, turn}
 use Rattle.layout.specs.Places.{cellsOf, handlersOf}
 use Rattle.layout.specs.View.{wordSetting, view}
 use Rattle.layout.specs.WellFormed.{isWellFormed}
 use Rattle.promises.specs.Opening.{holding}
+
+-- What is asked of the register that the words say.
+unfoldable pub askedOf : List ℕ → ℕ → ℕ → Asked
+askedOf words handler code =
+    let m = cellsOf words in
+    let n = handlersOf words in
+    asked (wordSetting m) n (isWellFormed words) (view m n words) handler code
 
 -- The rules' turn on the register that the words say.
 unfoldable pub turnOf : List ℕ → ℕ → ℕ → ℕ → Turn ℕ

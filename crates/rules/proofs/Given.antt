@@ -11,7 +11,7 @@ use borrow.Author.Tests.{leb-true, leb-false, le-leb, lt-leb, ltb-true, ltb-fals
 use Rattle.rules.specs.Codes.{Step, begin, try, read, write, Kind, known, unknown}
 use Rattle.rules.specs.Replies.{Refusal, notWellFormed, noHandler, noCell, alreadyOpen, notOpen, unknownStep, outOfRange, tooShort}
 use Rattle.rules.specs.Checks.{Check, _when_, firstHit, Asked, isBeyond, isBegin, stepChecks, inRange, openingChecks}
-use Rattle.rules.specs.Given.{Within, Beyond, Late, Heard, Placed, Given, Free, InRange, OpeningGiven}
+use Rattle.rules.specs.Given.{Within, Beyond, Late, Heard, Placed, Given, phaseFor, Free, InRange, OpeningGiven}
 use Rattle.rules.proofs.Tables.{by, and-left, and-right, and-both, both-ways}
 
 -- Where each G gives its own answer, and one G holds or there is no answer, an answer is given exactly when its G holds.
@@ -94,22 +94,30 @@ module _ (a : Asked) where
   -- A step that is free passes every check.
   free-passes : (s : Step) → Free a s → says ≡ none
   unfolding firstHit
-  free-passes begin (p, o) = placed-says begin p ∙ rw o
-  free-passes try (p, o) = placed-says try p ∙ rw o
-  free-passes (read x) (p, o) = placed-says (read x) p ∙ rw o
-  free-passes (write x) (p, o) = placed-says (write x) p ∙ rw o
+  free-passes s f = placed-says s (f .placed) ∙ allowed s (f .phase)
+    where
+      allowed : (s : Step) → a .opened ≡ phaseFor s → phased s ≡ none
+      allowed begin o = rw o
+      allowed try o = rw o
+      allowed (read x) o = rw o
+      allowed (write x) o = rw o
 
   -- ── What the lists say is so ────────────────────────────────────────
 
-  -- Of every step one number is given, or it is free.
-  abbrev Verdict : Type 0
+  -- One number is given, or the step is free.
+  abbrev pub Verdict : Type 0
   Verdict = ((refusal : Refusal) × Given refusal a) ⊎ ((s : Step) × Free a s)
 
+  late-decides : (s : Step) → Placed a s → phaseFor s ≡ true → Late s → Verdict
+  late-decides s p wanted late = by (a .opened)
+      (λ o. inr (s, record { placed = p; phase = o ∙ sym wanted }))
+      (λ o. inl (notOpen, (s, p, late, o)))
+
   phase-decides : (s : Step) → Placed a s → Verdict
-  phase-decides begin p = by (a .opened) (λ o. inl (alreadyOpen, (p, o))) (λ o. inr (begin, (p, o)))
-  phase-decides try p = by (a .opened) (λ o. inr (try, (p, o))) (λ o. inl (notOpen, (try, p, tt, o)))
-  phase-decides (read x) p = by (a .opened) (λ o. inr (read x, (p, o))) (λ o. inl (notOpen, (read x, p, tt, o)))
-  phase-decides (write x) p = by (a .opened) (λ o. inr (write x, (p, o))) (λ o. inl (notOpen, (write x, p, tt, o)))
+  phase-decides begin p = by (a .opened) (λ o. inl (alreadyOpen, (p, o))) (λ o. inr (begin, record { placed = p; phase = o }))
+  phase-decides try p = late-decides try p refl tt
+  phase-decides (read x) p = late-decides (read x) p refl tt
+  phase-decides (write x) p = late-decides (write x) p refl tt
 
   cell-decides : (s : Step) → Heard a s → Verdict
   cell-decides s h = by (isBeyond (a .cellCount) (known s))
@@ -122,7 +130,8 @@ module _ (a : Asked) where
       (λ l. inl (noHandler, (s, e, q, leb-true (a .handlerCount) (a .handler) l)))
       (λ l. cell-decides s (record { wellFormed = e; known = q; handler = leb-false (a .handlerCount) (a .handler) l }))
 
-  verdict : Verdict
+  -- Of every step one number is given, or it is free.
+  pub verdict : Verdict
   verdict = by (a .wellFormed) (λ e. kind-decides e (a .kind) refl) (λ e. inl (notWellFormed, e))
 
 -- The checks of a step give each number exactly then.

@@ -2,6 +2,7 @@
 pub mod Tables
 pub mod Numbers
 pub mod Given
+pub mod Turns
 pub mod Properties
 pub mod Aborts
 pub mod OnTables

@@ -15,7 +15,6 @@ use Rattle.rules.specs.Register.{Setting, Cell, Handler, Register, withH
 use Rattle.rules.specs.Checks.{Check, _when_, firstHit}
 use Rattle.rules.specs.Figure.{Result, joined, taken, shown, begun, isTorn, isOvertaken, isSpent, aborting, committing, unlessAborted}
 use Rattle.rules.specs.Figure.{readChecks, tryChecks, firstRead, reading, trying, step}
-use Rattle.rules.specs.Turn.{Turn, turned, turn, refusalOf}
 use Rattle.rules.proofs.Tables.{by, both-ways, and-left, and-right, and-both, some-true, some-from, some-false, some-none, put-here}
 use Rattle.rules.proofs.Tables.{put-other}
 use Rattle.rules.proofs.Given.{exactly}
@@ -36,17 +35,6 @@ module _ {W : Type 0} where
   one-changed r i h = record { cells = refl; others = λ j ne. put-other (r .handlers) i h j ne }
 
 module _ {W : Type 0} (S : Setting W) where
-  -- A refused step changes nothing.
-  pub refused-unchanged : (n : ℕ) (wellFormed : Bool) (r : Register W) (i code : ℕ) (v : W) (refusal : Refusal)
-      → turn S n wellFormed r i code v .reply ≡ Reply.refused refusal → turn S n wellFormed r i code v .after ≡ r
-  unfolding turn turned
-  refused-unchanged n wellFormed r i code v refusal = left (refusalOf S n wellFormed r i code) (kindOf code)
-    where
-      left : (o : Option Refusal) (k : Kind) → turned S r i code v o k .reply ≡ Reply.refused refusal → turned S r i code v o k .after ≡ r
-      left (some other) k e = refl
-      left none unknown e = refl
-      left none (known s) e = let z : _≡_ {A = ℕ} 0 1 = cc in absurd (omega arith)
-
   -- A check that aborts, or a result that changes one handler: in both, one handler changes.
   aborted-one : (r : Register W) (i : ℕ) (h : Handler W) (o : Option Reason) (result : Result W)
       → OneHandler r i (result .after) → OneHandler r i (unlessAborted S r i h o result .after)

@@ -50,12 +50,17 @@ Given notOpen a = (s : Step) × Placed a s × Late s × (a .opened ≡ false)
 Given outOfRange a = ⊥
 Given tooShort a = ⊥
 
--- When a step is taken: by a handler of a well-formed register that the phase allows.
-abbrev pub Free : Asked → Step → Type 0
-Free a begin = Placed a begin × (a .opened ≡ false)
-Free a try = Placed a try × (a .opened ≡ true)
-Free a (read x) = Placed a (read x) × (a .opened ≡ true)
-Free a (write x) = Placed a (write x) × (a .opened ≡ true)
+-- The phase that a step wants: begin an idle handler, all others an open one.
+abbrev pub phaseFor : Step → Bool
+phaseFor begin = false
+phaseFor try = true
+phaseFor (read x) = true
+phaseFor (write x) = true
+
+-- When the step s is taken.
+pub record Free (a : Asked) (s : Step) : Type 0 where
+  pub placed : Placed a s
+  pub phase : a .opened ≡ phaseFor s
 
 -- m is 1 to 32 and n is 1 to 16.
 pub record InRange (m n : ℕ) : Type 0 where

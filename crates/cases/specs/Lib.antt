@@ -1,0 +1,2 @@
+-- How a case is played on words.
+pub mod Played

@@ -1,0 +1,55 @@
+-- Each refusal is given exactly when its condition holds and no earlier one does, and then no word is changed.
+use Prim.Native.Nat.{ℕ}
+use native.Mathlib.Omega.{arith}
+use mathlib.Core.Path.{_≡_, sym, _∙_}
+use mathlib.Core.List.{List}
+use mathlib.Core.Logic.{_↔_}
+use mathlib.Core.Option.{Option, none, some, Option·some-ne-none}
+use lib.ListN.{length}
+use Rattle.rules.specs.Replies.{Refusal, Reply, Opening}
+use Rattle.rules.specs.Given.{Given, OpeningGiven}
+use Rattle.rules.proofs.Given.{opening-exactly}
+use Rattle.rules.proofs.Turns.{turn-given}
+use Rattle.layout.specs.Places.{size}
+use Rattle.promises.specs.Opening.{openingRefusal, openingReply, openingWords, OpeningPromise}
+use Rattle.promises.specs.Stepping.{askedOf, turnOf, stepWords, StepPromise}
+
+-- ── Opening ───────────────────────────────────────────────────────────
+
+opening-said : (o : Option Refusal) (refusal : Refusal) → (openingReply o ≡ Opening.refused refusal) ↔ (o ≡ some refusal)
+unfolding openingReply
+opening-said none refusal = (λ e. absurd (let z : _≡_ {A = ℕ} 0 1 = cc in omega arith), λ e. absurd (Option·some-ne-none refusal (sym e)))
+opening-said (some other) refusal = (λ e. cc, λ e. cc)
+
+-- An opening is refused with each number exactly then.
+pub opening-refused : {words : List ℕ} {m n : ℕ} {reply : Opening} {after : List ℕ} → OpeningPromise words m n reply after
+    → (refusal : Refusal) → (reply ≡ Opening.refused refusal) ↔ OpeningGiven refusal m n (length words) (size m n)
+unfolding openingRefusal
+opening-refused {words} {m} {n} p refusal =
+    let said = opening-said (openingRefusal words m n) refusal in
+    let given = opening-exactly m n (length words) (size m n) refusal in
+    (λ e. given .0 (said .0 (sym (p .replied) ∙ e)), λ g. p .replied ∙ said .1 (given .1 g))
+
+-- A refused opening changes no word.
+pub opening-unchanged : {words : List ℕ} {m n : ℕ} {reply : Opening} {after : List ℕ} → OpeningPromise words m n reply after
+    → (refusal : Refusal) → reply ≡ Opening.refused refusal → after ≡ words
+unfolding openingWords
+opening-unchanged {words} {m} {n} p refusal e =
+    let refused = opening-said (openingRefusal words m n) refusal .0 (sym (p .replied) ∙ e) in
+    p .left ∙ rw refused
+
+-- ── A step ────────────────────────────────────────────────────────────
+
+-- A step is refused with each number exactly then.
+pub step-refused : {words : List ℕ} {handler code value : ℕ} {reply : Reply ℕ} {after : List ℕ} → StepPromise words handler code value reply after
+    → (refusal : Refusal) → (reply ≡ Reply.refused refusal) ↔ Given refusal (askedOf words handler code)
+unfolding askedOf turnOf
+step-refused p refusal =
+    let given = turn-given _ _ _ _ _ _ _ refusal in
+    (λ e. given .0 (sym (p .replied) ∙ e), λ g. p .replied ∙ given .1 g)
+
+-- A refused step changes no word.
+pub step-unchanged : {words : List ℕ} {handler code value : ℕ} {reply : Reply ℕ} {after : List ℕ} → StepPromise words handler code value reply after
+    → (refusal : Refusal) → reply ≡ Reply.refused refusal → after ≡ words
+unfolding stepWords
+step-unchanged p refusal e = p .left ∙ rw (sym (p .replied) ∙ e)

@@ -1,0 +1,54 @@
+-- What a turn is: a refusal with a number that is given, or a step that is free, taken and reported.
+use Prim.Native.Nat.{ℕ}
+use native.Mathlib.Omega.{arith}
+use mathlib.Core.Path.{_≡_, refl, sym, ap, _∙_, subst}
+use mathlib.Core.Bool.{Bool}
+use mathlib.Core.Logic.{_↔_, inl, inr}
+use mathlib.Core.Option.{Option, none, some}
+use Rattle.rules.specs.Codes.{Step, Kind, known, unknown, kindOf}
+use Rattle.rules.specs.Replies.{Refusal, Report, Reply, reported}
+use Rattle.rules.specs.Register.{Setting, Register}
+use Rattle.rules.specs.Checks.{Asked, firstHit, stepChecks}
+use Rattle.rules.specs.Given.{Given, Free}
+use Rattle.rules.specs.Figure.{step}
+use Rattle.rules.specs.Turn.{Turn, asked, refusalOf, turned, turn}
+use Rattle.rules.proofs.Given.{Verdict, verdict, given-exactly, free-exactly}
+
+-- What the turn of a step that is taken is.
+abbrev pub takenTurn : {W : Type 0} → Setting W → Register W → ℕ → ℕ → W → Step → Turn W
+takenTurn S r i code v s =
+    record { reply = reported (record { handler = i; code = code; outcome = step S r i s v .outcome }); after = step S r i s v .after }
+
+-- What the turn of a step that is refused is.
+abbrev pub refusedTurn : {W : Type 0} → Register W → Refusal → Turn W
+refusedTurn r refusal = record { reply = Reply.refused refusal; after = r }
+
+module _ {W : Type 0} (S : Setting W) (n : ℕ) (wellFormed : Bool) (r : Register W) (i code : ℕ) (v : W) where
+  -- A number that is given refuses the step, and nothing is changed.
+  pub given-turn : (refusal : Refusal) → Given refusal (asked S n wellFormed r i code) → turn S n wellFormed r i code v ≡ refusedTurn r refusal
+  unfolding turn refusalOf turned
+  given-turn refusal g = rw (given-exactly (asked S n wellFormed r i code) refusal .1 g)
+
+  -- A step that is free is taken.
+  pub free-turn : (s : Step) → Free (asked S n wellFormed r i code) s → turn S n wellFormed r i code v ≡ takenTurn S r i code v s
+  unfolding turn refusalOf turned asked
+  free-turn s f = rw (free-exactly (asked S n wellFormed r i code) .1 (s, f), f .placed .heard .known)
+
+  -- A step is refused with each number exactly when it is given.
+  pub turn-given : (refusal : Refusal) → (turn S n wellFormed r i code v .reply ≡ Reply.refused refusal) ↔ Given refusal (asked S n wellFormed r i code)
+  turn-given refusal = (λ e. decides e (verdict (asked S n wellFormed r i code)), λ g. ap (λ t. t .reply) (given-turn refusal g))
+    where
+      same : {a b : Refusal} → _≡_ {A = Reply W} (Reply.refused a) (Reply.refused b) → a ≡ b
+      same e = cc
+
+      reports : {report : Report W} → _≡_ {A = Reply W} (reported report) (Reply.refused refusal) → ⊥
+      reports e = let z : _≡_ {A = ℕ} 0 1 = cc in omega arith
+
+      decides : turn S n wellFormed r i code v .reply ≡ Reply.refused refusal → Verdict (asked S n wellFormed r i code)
+          → Given refusal (asked S n wellFormed r i code)
+      decides e (inl (other, g)) = subst (λ f. Given f (asked S n wellFormed r i code)) (same (sym (ap (λ t. t .reply) (given-turn other g)) ∙ e)) g
+      decides e (inr (s, f)) = absurd (reports (sym (ap (λ t. t .reply) (free-turn s f)) ∙ e))
+
+  -- A refused step changes nothing.
+  pub refused-unchanged : (refusal : Refusal) → turn S n wellFormed r i code v .reply ≡ Reply.refused refusal → turn S n wellFormed r i code v .after ≡ r
+  refused-unchanged refusal e = ap (λ t. t .after) (given-turn refusal (turn-given refusal .0 e))
