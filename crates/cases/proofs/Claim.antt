@@ -3,7 +3,6 @@ use mathlib.Core.Path.{_≡_, refl}
 use mathlib.Core.List.{map}
 use Rattle.rules.specs.Tables.{put, orElse, lowest, someBelow}
 use Rattle.rules.specs.Codes.{kindOf}
-use Rattle.rules.specs.Replies.{reasonNumber, refusalNumber, outcomeNumbers, refusalNumbers, replyNumbers}
 use Rattle.rules.specs.Register.{withHandler, idle, blank, fresh}
 use Rattle.rules.specs.Checks.{firstHit, stepChecks, inRange, openingChecks}
 use Rattle.rules.specs.Figure.{joined, taken, wrote, shown, stamped, stored, begun, isTorn, isOvertaken, isSpent}
@@ -16,7 +15,7 @@ use Rattle.layout.specs.View.{viewCell, viewHandler, view, pourCell, pourHandle
 use Rattle.layout.specs.WellFormed.{everyBelow, numbersFit, isGoodBlock, isRegister, isWellFormed}
 use Rattle.promises.specs.Opening.{openingRefusal, holding, openingReply, openingWords}
 use Rattle.promises.specs.Stepping.{turnOf, stepWords}
-use Rattle.cases.specs.Played.{Seen, openingNumbers, playLines, playFrom, made, joinRows, saidReplies, saidCounts, saidWords, said}
+use Rattle.cases.specs.Played.{openingNumbers, playLines, playFrom, made, joinRows, saidReplies, saidCounts, saidWords, said}
 
 -- The promises make of each case what it says: every reply, and every word at the end.
 pub all-cases : map made cases ≡ map said cases
@@ -24,7 +23,6 @@ unfolding made said playFrom playLines openingNumbers saidReplies saidCounts sai
     openingRefusal holding openingReply openingWords turnOf stepWords
     everyBelow numbersFit isGoodBlock isRegister isWellFormed viewCell viewHandler view pourCell pourHandler pour
     hasBit mask row rows below put orElse lowest someBelow kindOf
-    reasonNumber refusalNumber outcomeNumbers refusalNumbers replyNumbers
     withHandler idle blank fresh firstHit stepChecks inRange openingChecks
     joined taken wrote shown stamped stored begun isTorn isOvertaken isSpent aborting committing
     unlessAborted readChecks tryChecks firstRead reading trying step asked refusalOf turned turn

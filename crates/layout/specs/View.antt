@@ -2,7 +2,7 @@
 -- cells and handlers it holds what a fresh register holds.
 use Prim.Native.Nat.{ℕ}
 use mathlib.Core.Bool.{false}
-use mathlib.Core.List.{List, [], _∷_, _++_}
+use mathlib.Core.List.{List, _∷_, _++_}
 use lib.Dec.{eqb}
 use Rattle.rules.specs.Register.{Setting, Cell, Handler, Register, zeros, idle, blank}
 use Rattle.layout.specs.Bits.{bit, hasBit, mask}

@@ -1,21 +1,19 @@
 -- Exactly when a first read or a try is aborted, and with which reason: the tests of Figure.antt as statements about every cell.
 use Prim.Native.Nat.{ℕ, _<_}
-use native.Mathlib.Omega.{arith}
-use mathlib.Core.Path.{_≡_, refl, sym, ap, _∙_}
-use mathlib.Core.Bool.{Bool, true, false, not, _&&_, _||_}
+use mathlib.Core.Path.{_≡_, sym, ap, _∙_}
+use mathlib.Core.Bool.{Bool, true, false, not, _&&_}
 use mathlib.Core.Logic.{_↔_, _⊎_, inl, inr, ⊎-map}
-use mathlib.Core.Option.{Option, none, some, Option·some-ne-none}
+use mathlib.Core.Option.{none, some, Option·some-ne-none}
 use lib.Dec.{eqb, ltb}
 use borrow.Author.Tests.{eqb-true, eqb-false, eq-eqb, ne-eqb, ltb-true, lt-ltb, not-true, not-false}
-use Rattle.rules.specs.Tables.{if_then_else_, someBelow}
-use Rattle.rules.specs.Codes.{Step, try, read}
-use Rattle.rules.specs.Replies.{Reason, torn, overtaken, spent, Outcome, committed, aborted}
+use Rattle.rules.specs.Tables.{someBelow}
+use Rattle.rules.specs.Codes.{try, read}
+use Rattle.rules.specs.Replies.{Reason, torn, overtaken, spent, committed, aborted}
 use Rattle.rules.specs.Register.{Setting, Cell, Handler, Register}
 use Rattle.rules.specs.Checks.{firstHit}
-use Rattle.rules.specs.Figure.{Result, joined, isTorn, isOvertaken, isSpent, unlessAborted, readChecks, tryChecks, firstRead, reading}
+use Rattle.rules.specs.Figure.{joined, isTorn, isOvertaken, isSpent, unlessAborted, readChecks, tryChecks, firstRead, reading}
 use Rattle.rules.specs.Figure.{trying, step}
-use Rattle.rules.proofs.Tables.{by, both-ways, and-left, and-right, and-both, or-neither, some-true, some-from, some-false}
-use Rattle.rules.proofs.Tables.{some-none}
+use Rattle.rules.proofs.Tables.{by, both-ways, and-left, and-right, and-both, some-true, some-from}
 use Rattle.rules.proofs.Given.{exactly}
 use Rattle.rules.proofs.Properties.{abort-means, commit-no-abort, value-no-abort}
 

@@ -9,13 +9,12 @@ use Rattle.rules.specs.Replies.{Reason, torn, overtaken, spent, Outcome,
 use Rattle.rules.specs.Replies.{noHandler, noCell, alreadyOpen, notOpen, unknownStep, outOfRange, tooShort, reasonNumber}
 use Rattle.rules.specs.Replies.{refusalNumber, Numbers, outcomeNumbers, refusalNumbers}
 
--- Different things have different numbers.
-pub Injective : {A B : Type 0} → (A → B) → Type 0
+-- Different things have different images.
+abbrev pub Injective : {A B : Type 0} → (A → B) → Type 0
 Injective {A} number = (a b : A) → number a ≡ number b → a ≡ b
 
 -- What can be read back is injective.
-read-back : {A B : Type 0} (number : A → B) (back : B → A) → ((a : A) → back (number a) ≡ a) → Injective number
-unfolding Injective
+pub read-back : {A B : Type 0} (number : A → B) (back : B → A) → ((a : A) → back (number a) ≡ a) → Injective number
 read-back number back same a b e = sym (same a) ∙ ap back e ∙ same b
 
 -- The reason of a number.
@@ -37,13 +36,13 @@ outcomeOf n =
     else (if eqb (n .kind) 2 then committed else (aborted (reasonOf (n .detail)))))
 
 reason-back : (reason : Reason) → reasonOf (reasonNumber reason) ≡ reason
-unfolding reasonOf reasonNumber
+unfolding reasonOf
 reason-back torn = refl
 reason-back overtaken = refl
 reason-back spent = refl
 
 refusal-back : (refusal : Refusal) → refusalOf (refusalNumber refusal) ≡ refusal
-unfolding refusalOf refusalNumber
+unfolding refusalOf
 refusal-back notWellFormed = refl
 refusal-back noHandler = refl
 refusal-back noCell = refl
@@ -54,7 +53,7 @@ refusal-back outOfRange = refl
 refusal-back tooShort = refl
 
 outcome-back : (outcome : Outcome ℕ) → outcomeOf (outcomeNumbers outcome) ≡ outcome
-unfolding outcomeOf outcomeNumbers
+unfolding outcomeOf
 outcome-back ok = refl
 outcome-back (value v) = refl
 outcome-back committed = refl
@@ -74,7 +73,6 @@ outcomes-apart = read-back outcomeNumbers outcomeOf outcome-back
 
 -- No outcome has the kind of a refusal.
 pub outcome-no-refusal : (outcome : Outcome ℕ) (refusal : Refusal) → outcomeNumbers outcome ≡ refusalNumbers refusal → ⊥
-unfolding outcomeNumbers refusalNumbers
 outcome-no-refusal ok refusal e = let kinds : _≡_ {A = ℕ} 0 4 = ap (λ n. n .kind) e in omega arith
 outcome-no-refusal (value v) refusal e = let kinds : _≡_ {A = ℕ} 1 4 = ap (λ n. n .kind) e in omega arith
 outcome-no-refusal committed refusal e = let kinds : _≡_ {A = ℕ} 2 4 = ap (λ n. n .kind) e in omega arith

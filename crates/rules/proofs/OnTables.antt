@@ -4,10 +4,10 @@ use Prim.Native.Nat.{ℕ, zero, suc}
 use mathlib.Core.Path.{_≡_, refl}
 use mathlib.Core.Bool.{true}
 use mathlib.Core.List.{List, [], _∷_, _++_, map}
-use Rattle.rules.specs.Tables.{if_then_else_, put, orElse, lowest, someBelow}
+use Rattle.rules.specs.Tables.{put, orElse, lowest, someBelow}
 use Rattle.rules.specs.Codes.{kindOf}
-use Rattle.rules.specs.Replies.{Numbers, reasonNumber, refusalNumber, outcomeNumbers, refusalNumbers, replyNumbers}
-use Rattle.rules.specs.Register.{Setting, Register, withHandler, idle, blank, fresh}
+use Rattle.rules.specs.Replies.{Numbers, replyNumbers}
+use Rattle.rules.specs.Register.{Register, withHandler, idle, blank, fresh}
 use Rattle.rules.specs.Checks.{firstHit, stepChecks}
 use Rattle.rules.specs.Figure.{joined, taken, wrote, shown, stamped, stored, begun, isTorn, isOvertaken, isSpent}
 use Rattle.rules.specs.Figure.{aborting, committing, unlessAborted, readChecks, tryChecks, firstRead, reading, trying, step}
@@ -66,7 +66,6 @@ said row = record { replies = map (λ l. l .reply) (row .lines); cells = row .ce
 on-tables : map made (rowsOf cases) ≡ map said (rowsOf cases)
 unfolding made said play cellsIn entries rowOf rowsOf cases
     put orElse lowest someBelow kindOf
-    reasonNumber refusalNumber outcomeNumbers refusalNumbers replyNumbers
     withHandler idle blank fresh firstHit stepChecks
     joined taken wrote shown stamped stored begun isTorn isOvertaken isSpent aborting committing
     unlessAborted readChecks tryChecks firstRead reading trying step asked refusalOf turned turn

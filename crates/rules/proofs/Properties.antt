@@ -1,23 +1,17 @@
 -- What a reader expects of the steps: what each leaves alone, and what an abort leaves. Properties are numbered as in PI 1923.
-use Prim.Native.Nat.{ℕ, _<_}
+use Prim.Native.Nat.{ℕ}
 use native.Mathlib.Omega.{arith}
-use mathlib.Core.Path.{_≡_, refl, sym, ap, _∙_}
-use mathlib.Core.Bool.{Bool, true, false, not, _&&_, _||_}
-use mathlib.Core.List.{List, [], _∷_}
-use mathlib.Core.Logic.{_↔_, _⊎_, inl, inr, ⊎-elim}
+use mathlib.Core.Path.{_≡_, refl, sym, ap}
+use mathlib.Core.Bool.{_||_}
+use mathlib.Core.Logic.{_↔_}
 use mathlib.Core.Option.{Option, none, some, Option·some-injective, Option·some-ne-none}
-use lib.Dec.{eqb, ltb}
-use borrow.Author.Tests.{eqb-true, eqb-false, eq-eqb, ne-eqb, ltb-true, lt-ltb, not-true}
-use Rattle.rules.specs.Tables.{if_then_else_, put, someBelow}
-use Rattle.rules.specs.Codes.{Step, begin, try, read, write, Kind, known, unknown, kindOf}
-use Rattle.rules.specs.Replies.{Reason, torn, overtaken, spent, Outcome, ok, value, committed, aborted, Refusal, Reply, reported}
-use Rattle.rules.specs.Register.{Setting, Cell, Handler, Register, withHandler, idle}
-use Rattle.rules.specs.Checks.{Check, _when_, firstHit}
-use Rattle.rules.specs.Figure.{Result, joined, taken, shown, begun, isTorn, isOvertaken, isSpent, aborting, committing, unlessAborted}
-use Rattle.rules.specs.Figure.{readChecks, tryChecks, firstRead, reading, trying, step}
-use Rattle.rules.proofs.Tables.{by, both-ways, and-left, and-right, and-both, some-true, some-from, some-false, some-none, put-here}
+use Rattle.rules.specs.Codes.{Step, begin, try, read, write}
+use Rattle.rules.specs.Replies.{Reason, Outcome, ok, committed, aborted}
+use Rattle.rules.specs.Register.{Setting, Handler, Register, withHandler, idle}
+use Rattle.rules.specs.Figure.{Result, shown, aborting, unlessAborted}
+use Rattle.rules.specs.Figure.{firstRead, reading, trying, step}
+use Rattle.rules.proofs.Tables.{by}
 use Rattle.rules.proofs.Tables.{put-other}
-use Rattle.rules.proofs.Given.{exactly}
 
 -- ── What a step leaves alone ──────────────────────────────────────────
 

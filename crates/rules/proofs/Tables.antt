@@ -2,11 +2,11 @@
 use Prim.Native.Nat.{ℕ, zero, suc, _<_}
 use native.Mathlib.Omega.{arith}
 use mathlib.Core.Path.{_≡_, refl, sym, ap, _∙_, fun-ext, subst}
-use mathlib.Core.Bool.{Bool, true, false, not, _&&_, _||_, true≢false, false≢true}
+use mathlib.Core.Bool.{Bool, true, false, _&&_, _||_, true≢false, false≢true}
 use mathlib.Core.Option.{Option, none, some, Option·some-injective, Option·some-ne-none}
 use lib.Dec.{eqb}
 use borrow.Author.Tests.{eqb-true, eqb-false, eq-eqb, ne-eqb}
-use Rattle.rules.specs.Tables.{if_then_else_, put, orElse, lowest, isFound, someBelow}
+use Rattle.rules.specs.Tables.{put, orElse, lowest, someBelow}
 
 -- ── Tests ─────────────────────────────────────────────────────────────
 

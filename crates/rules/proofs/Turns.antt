@@ -1,14 +1,12 @@
 -- What a turn is: a refusal with a number that is given, or a step that is free, taken and reported.
 use Prim.Native.Nat.{ℕ}
 use native.Mathlib.Omega.{arith}
-use mathlib.Core.Path.{_≡_, refl, sym, ap, _∙_, subst}
+use mathlib.Core.Path.{_≡_, sym, ap, _∙_, subst}
 use mathlib.Core.Bool.{Bool}
 use mathlib.Core.Logic.{_↔_, inl, inr}
-use mathlib.Core.Option.{Option, none, some}
-use Rattle.rules.specs.Codes.{Step, Kind, known, unknown, kindOf}
+use Rattle.rules.specs.Codes.{Step, known}
 use Rattle.rules.specs.Replies.{Refusal, Report, Reply, reported}
 use Rattle.rules.specs.Register.{Setting, Register}
-use Rattle.rules.specs.Checks.{Asked, firstHit, stepChecks}
 use Rattle.rules.specs.Given.{Given, Free}
 use Rattle.rules.specs.Figure.{step}
 use Rattle.rules.specs.Turn.{Turn, asked, refusalOf, turned, turn}

@@ -1,7 +1,7 @@
 -- What a register holds, as tables over any kind of value W: cells and handlers, a vector of numbers as a table of numbers, a set
 -- of cells as a table of yes and no.
 use Prim.Native.Nat.{ℕ}
-use mathlib.Core.Bool.{Bool, true, false}
+use mathlib.Core.Bool.{Bool, false}
 use Rattle.rules.specs.Tables.{put}
 
 -- What the rules are taken over: the value that an unwritten cell and a cleared copy hold, and the number of cells.

@@ -42,13 +42,13 @@ pub data Opening : Type 0 where
 -- ── Numbers ───────────────────────────────────────────────────────────
 
 -- The number of an abort's reason.
-unfoldable pub reasonNumber : Reason → ℕ
+abbrev pub reasonNumber : Reason → ℕ
 reasonNumber torn = 1
 reasonNumber overtaken = 2
 reasonNumber spent = 3
 
 -- The number of a refusal.
-unfoldable pub refusalNumber : Refusal → ℕ
+abbrev pub refusalNumber : Refusal → ℕ
 refusalNumber notWellFormed = 10
 refusalNumber noHandler = 11
 refusalNumber noCell = 12
@@ -64,17 +64,17 @@ pub record Numbers : Type 0 where
   pub detail : ℕ
 
 -- An outcome in numbers, where the values are numbers.
-unfoldable pub outcomeNumbers : Outcome ℕ → Numbers
+abbrev pub outcomeNumbers : Outcome ℕ → Numbers
 outcomeNumbers ok = record { kind = 0; detail = 0 }
 outcomeNumbers (value v) = record { kind = 1; detail = v }
 outcomeNumbers committed = record { kind = 2; detail = 0 }
 outcomeNumbers (aborted reason) = record { kind = 3; detail = reasonNumber reason }
 
 -- A refusal in numbers.
-unfoldable pub refusalNumbers : Refusal → Numbers
+abbrev pub refusalNumbers : Refusal → Numbers
 refusalNumbers refusal = record { kind = 4; detail = refusalNumber refusal }
 
 -- A reply in numbers.
-unfoldable pub replyNumbers : Reply ℕ → Numbers
+abbrev pub replyNumbers : Reply ℕ → Numbers
 replyNumbers (reported report) = outcomeNumbers (report .outcome)
 replyNumbers (refused refusal) = refusalNumbers refusal

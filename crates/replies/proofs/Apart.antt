@@ -1,0 +1,98 @@
+-- Nothing is lost in what a reply means: different answers are different replies of the rules. Each meaning can be read back.
+use Prim.Native.Nat.{ℕ}
+use mathlib.Core.Path.{_≡_, refl, ap}
+use Rattle.rules.specs.Replies as Rules
+use Rattle.rules.proofs.Numbers.{Injective, read-back}
+use Rattle.replies.specs.declared.Reason.{Reason}
+use Rattle.replies.specs.declared.Reason.the-variants.{Torn, Overtaken, Spent}
+use Rattle.replies.specs.declared.Outcome.{Outcome}
+use Rattle.replies.specs.declared.Outcome.the-variants.{Done, Value, Committed, Aborted}
+use Rattle.replies.specs.declared.Refusal.{Refusal}
+use Rattle.replies.specs.declared.Refusal.the-variants.{NotWellFormed, NoHandler, NoCell, AlreadyOpen, NotOpen, UnknownStep}
+use Rattle.replies.specs.declared.Refusal.the-variants.{OutOfRange, TooShort}
+use Rattle.replies.specs.declared.Answer.{Answer}
+use Rattle.replies.specs.declared.Answer.the-variants.{Reported, Refused}
+use Rattle.replies.specs.declared.Opened.{Opened}
+use Rattle.replies.specs.declared.Opened.the-variants.{Ready, Rejected}
+use Rattle.replies.specs.Meaning.{reasonOf, outcomeOf, refusalOf, replyOf, openingOf}
+
+-- ── Reading back ──────────────────────────────────────────────────────
+
+reasonBack : Rules.Reason → Reason
+reasonBack Rules.torn = Torn
+reasonBack Rules.overtaken = Overtaken
+reasonBack Rules.spent = Spent
+
+outcomeBack : Rules.Outcome ℕ → Outcome
+outcomeBack Rules.ok = Done
+outcomeBack (Rules.value v) = Value v
+outcomeBack Rules.committed = Committed
+outcomeBack (Rules.aborted reason) = Aborted (reasonBack reason)
+
+refusalBack : Rules.Refusal → Refusal
+refusalBack Rules.notWellFormed = NotWellFormed
+refusalBack Rules.noHandler = NoHandler
+refusalBack Rules.noCell = NoCell
+refusalBack Rules.alreadyOpen = AlreadyOpen
+refusalBack Rules.notOpen = NotOpen
+refusalBack Rules.unknownStep = UnknownStep
+refusalBack Rules.outOfRange = OutOfRange
+refusalBack Rules.tooShort = TooShort
+
+answerBack : Rules.Reply ℕ → Answer
+answerBack (Rules.reported report) = Reported (record { handler = report .handler; code = report .code; outcome = outcomeBack (report .outcome) })
+answerBack (Rules.Reply.refused refusal) = Refused (refusalBack refusal)
+
+openedBack : Rules.Opening → Opened
+openedBack Rules.ready = Ready
+openedBack (Rules.Opening.refused refusal) = Rejected (refusalBack refusal)
+
+-- ── What is read back is what was said ────────────────────────────────
+
+reason-same : (reason : Reason) → reasonBack (reasonOf reason) ≡ reason
+unfolding reasonBack
+reason-same Torn = refl
+reason-same Overtaken = refl
+reason-same Spent = refl
+
+outcome-same : (outcome : Outcome) → outcomeBack (outcomeOf outcome) ≡ outcome
+unfolding outcomeBack
+outcome-same Done = refl
+outcome-same (Value v) = refl
+outcome-same Committed = refl
+outcome-same (Aborted reason) = ap Aborted (reason-same reason)
+
+refusal-same : (refusal : Refusal) → refusalBack (refusalOf refusal) ≡ refusal
+unfolding refusalBack
+refusal-same NotWellFormed = refl
+refusal-same NoHandler = refl
+refusal-same NoCell = refl
+refusal-same AlreadyOpen = refl
+refusal-same NotOpen = refl
+refusal-same UnknownStep = refl
+refusal-same OutOfRange = refl
+refusal-same TooShort = refl
+
+answer-same : (answer : Answer) → answerBack (replyOf answer) ≡ answer
+unfolding answerBack
+answer-same (Reported report) = ap (λ o. Reported (record { handler = report .handler; code = report .code; outcome = o })) (outcome-same (report .outcome))
+answer-same (Refused refusal) = ap Refused (refusal-same refusal)
+
+opened-same : (opened : Opened) → openedBack (openingOf opened) ≡ opened
+unfolding openedBack
+opened-same Ready = refl
+opened-same (Rejected refusal) = ap Rejected (refusal-same refusal)
+
+-- ── No two are the same ───────────────────────────────────────────────
+
+-- Different outcomes differ in the rules.
+pub outcomes-apart : Injective outcomeOf
+outcomes-apart = read-back outcomeOf outcomeBack outcome-same
+
+-- Different answers to a step differ in the rules.
+pub answers-apart : Injective replyOf
+answers-apart = read-back replyOf answerBack answer-same
+
+-- Different answers to an opening differ in the rules.
+pub openings-apart : Injective openingOf
+openings-apart = read-back openingOf openedBack opened-same

@@ -1,0 +1,2 @@
+-- Nothing is lost in what a reply means.
+pub mod Apart

@@ -1,0 +1,2 @@
+-- What the replies of this crate mean.
+pub mod Meaning

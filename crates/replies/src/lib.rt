@@ -1,0 +1,77 @@
+// The replies of a register, as its callers see them: a report with an outcome with a reason, or a refusal; and their numbers.
+ghost use mathlib.Core.Path.{_≡_};
+ghost use Rattle.rules.specs.Replies.{reasonNumber, refusalNumber};
+ghost use Rattle.replies.specs.Meaning.{reasonOf, refusalOf};
+
+// Why a transaction was aborted.
+pub enum Reason {
+    Torn,
+    Overtaken,
+    Spent,
+}
+
+// What a step that is taken comes to.
+pub enum Outcome {
+    Done,
+    Value(u32),
+    Committed,
+    Aborted(Reason),
+}
+
+// A report names handler and step, and holds the outcome.
+pub struct Report {
+    pub handler: u32,
+    pub code: u32,
+    pub outcome: Outcome,
+}
+
+// Why a step or an opening is refused.
+pub enum Refusal {
+    NotWellFormed,
+    NoHandler,
+    NoCell,
+    AlreadyOpen,
+    NotOpen,
+    UnknownStep,
+    OutOfRange,
+    TooShort,
+}
+
+// The answer to a step.
+pub enum Answer {
+    Reported(Report),
+    Refused(Refusal),
+}
+
+// The answer to an opening.
+pub enum Opened {
+    Ready,
+    Rejected(Refusal),
+}
+
+// The number of a reason.
+pub fn reason_number(reason: Reason) -> u32
+    ensures { λ r. ⌜ r ≡ reasonNumber (reasonOf reason) ⌝ }
+{
+    match reason {
+        Reason::Torn => 1,
+        Reason::Overtaken => 2,
+        Reason::Spent => 3,
+    }
+}
+
+// The number of a refusal.
+pub fn refusal_number(refusal: Refusal) -> u32
+    ensures { λ r. ⌜ r ≡ refusalNumber (refusalOf refusal) ⌝ }
+{
+    match refusal {
+        Refusal::NotWellFormed => 10,
+        Refusal::NoHandler => 11,
+        Refusal::NoCell => 12,
+        Refusal::AlreadyOpen => 13,
+        Refusal::NotOpen => 14,
+        Refusal::UnknownStep => 15,
+        Refusal::OutOfRange => 20,
+        Refusal::TooShort => 21,
+    }
+}
