@@ -7,23 +7,23 @@ use Rattle.rules.specs.Register.{withHandler, idle, blank, fresh}
 use Rattle.rules.specs.Checks.{firstHit, stepChecks, inRange, openingChecks}
 use Rattle.rules.specs.Figure.{joined, taken, wrote, shown, stamped, stored, begun, isTorn, isOvertaken, isSpent}
 use Rattle.rules.specs.Figure.{aborting, committing, unlessAborted, readChecks, tryChecks, firstRead, reading, trying, step}
-use Rattle.rules.specs.Turn.{asked, refusalOf, turned, turn}
+use Rattle.rules.specs.Turn.{refusalOf, turned, turn}
 use Rattle.rules.specs.Cases.{cases}
 use Rattle.layout.specs.Bits.{hasBit, mask}
 use Rattle.layout.specs.Rows.{row, rows, below}
 use Rattle.layout.specs.View.{viewCell, viewHandler, view, pourCell, pourHandler, pour}
 use Rattle.layout.specs.WellFormed.{everyBelow, numbersFit, isGoodBlock, isRegister, isWellFormed}
-use Rattle.promises.specs.Opening.{openingRefusal, holding, openingReply, openingWords}
+use Rattle.promises.specs.Opening.{openingRefusal, openingReply, openingWords}
 use Rattle.promises.specs.Stepping.{turnOf, stepWords}
 use Rattle.cases.specs.Played.{openingNumbers, playLines, playFrom, made, joinRows, saidReplies, saidCounts, saidWords, said}
 
 -- The promises make of each case what it says: every reply, and every word at the end.
 pub all-cases : map made cases ≡ map said cases
 unfolding made said playFrom playLines openingNumbers saidReplies saidCounts saidWords joinRows cases
-    openingRefusal holding openingReply openingWords turnOf stepWords
+    openingRefusal openingReply openingWords turnOf stepWords
     everyBelow numbersFit isGoodBlock isRegister isWellFormed viewCell viewHandler view pourCell pourHandler pour
     hasBit mask row rows below put orElse lowest someBelow kindOf
     withHandler idle blank fresh firstHit stepChecks inRange openingChecks
     joined taken wrote shown stamped stored begun isTorn isOvertaken isSpent aborting committing
-    unlessAborted readChecks tryChecks firstRead reading trying step asked refusalOf turned turn
+    unlessAborted readChecks tryChecks firstRead reading trying step refusalOf turned turn
 all-cases = refl

@@ -4,10 +4,11 @@ use Prim.Native.Nat.{ℕ}
 use mathlib.Core.Bool.{false}
 use mathlib.Core.List.{List, _∷_, _++_}
 use lib.Dec.{eqb}
+use lib.ListN.{drop}
 use Rattle.rules.specs.Register.{Setting, Cell, Handler, Register, zeros, idle, blank}
 use Rattle.layout.specs.Bits.{bit, hasBit, mask}
 use Rattle.layout.specs.Rows.{row, rows, below}
-use Rattle.layout.specs.Places.{cellPart, handlerPart, valueIn, numberIn, phaseIn, readSetIn, writtenSetIn, handlerNumberIn}
+use Rattle.layout.specs.Places.{size, cellPart, handlerPart, valueIn, numberIn, phaseIn, readSetIn, writtenSetIn, handlerNumberIn}
 use Rattle.layout.specs.Places.{transactionNumberIn, copyIn}
 
 -- The rules over words: values are words, and an unwritten cell and a cleared copy hold 0.
@@ -49,3 +50,7 @@ pourHandler m h =
 -- The words of a register of m cells and n handlers, and no more.
 unfoldable pub pour : ℕ → ℕ → Register ℕ → List ℕ
 pour m n r = m ∷ n ∷ (rows m (λ c. pourCell m (r .cells c)) ++ rows n (λ i. pourHandler m (r .handlers i)))
+
+-- The words with a register of m cells and n handlers in front; words beyond its length stay as they were.
+abbrev pub holding : List ℕ → ℕ → ℕ → Register ℕ → List ℕ
+holding words m n r = pour m n r ++ drop (size m n) words

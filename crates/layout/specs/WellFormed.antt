@@ -8,6 +8,7 @@ use lib.ListN.{length}
 use lib.Dec.{leb, ltb}
 use Rattle.rules.specs.Tables.{someBelow}
 use Rattle.rules.specs.Checks.{inRange}
+use Rattle.rules.specs.Given.{InRange}
 use Rattle.layout.specs.Bits.{hasBit}
 use Rattle.layout.specs.Places.{cellsOf, handlersOf, size, cellPart, handlerPart, numberIn, phaseIn, readSetIn, writtenSetIn}
 use Rattle.layout.specs.Places.{handlerNumberIn, transactionNumberIn}
@@ -27,10 +28,7 @@ pub record GoodBlock (m : ℕ) (block : List ℕ) : Type 0 where
 -- Well formed: m and n in range, the buffer long enough, phases 0 or 1, no set bit at m or above, every number of a cell, a
 -- handler or a transaction at most 65,535.
 pub record WellFormed (words : List ℕ) : Type 0 where
-  pub someCell : 1 ≤ cellsOf words
-  pub cells : cellsOf words ≤ 32
-  pub someHandler : 1 ≤ handlersOf words
-  pub handlers : handlersOf words ≤ 16
+  pub range : InRange (cellsOf words) (handlersOf words)
   pub long : size (cellsOf words) (handlersOf words) ≤ length words
   pub numbers : (c : ℕ) → c < cellsOf words → (y : ℕ) → y < cellsOf words → numberIn (cellPart (cellsOf words) words c) y ≤ 65535
   pub blocks : (i : ℕ) → i < handlersOf words → GoodBlock (cellsOf words) (handlerPart (cellsOf words) words i)

@@ -1,22 +1,18 @@
 -- What opening promises, for all words, m and n: its reply, and every word afterwards.
 use Prim.Native.Nat.{ℕ}
 use mathlib.Core.Path.{_≡_}
-use mathlib.Core.List.{List, _++_}
+use mathlib.Core.List.{List}
 use mathlib.Core.Option.{Option, none, some}
-use lib.ListN.{length, drop}
+use lib.ListN.{length}
 use Rattle.rules.specs.Replies.{Refusal, Opening, ready}
-use Rattle.rules.specs.Register.{Register, fresh}
+use Rattle.rules.specs.Register.{fresh}
 use Rattle.rules.specs.Checks.{firstHit, openingChecks}
 use Rattle.layout.specs.Places.{size}
-use Rattle.layout.specs.View.{wordSetting, pour}
+use Rattle.layout.specs.View.{wordSetting, holding}
 
 -- What the checks of an opening say of it.
 unfoldable pub openingRefusal : List ℕ → ℕ → ℕ → Option Refusal
 openingRefusal words m n = firstHit (openingChecks m n (length words) (size m n))
-
--- The words with a register of m cells and n handlers in front; words beyond its length stay as they were.
-unfoldable pub holding : List ℕ → ℕ → ℕ → Register ℕ → List ℕ
-holding words m n r = pour m n r ++ drop (size m n) words
 
 -- The reply to an opening.
 unfoldable pub openingReply : Option Refusal → Opening

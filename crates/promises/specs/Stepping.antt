@@ -7,9 +7,8 @@ use Rattle.rules.specs.Register.{Register}
 use Rattle.rules.specs.Checks.{Asked}
 use Rattle.rules.specs.Turn.{Turn, asked, turn}
 use Rattle.layout.specs.Places.{cellsOf, handlersOf}
-use Rattle.layout.specs.View.{wordSetting, view}
+use Rattle.layout.specs.View.{wordSetting, view, holding}
 use Rattle.layout.specs.WellFormed.{isWellFormed}
-use Rattle.promises.specs.Opening.{holding}
 
 -- What is asked of the register that the words say.
 unfoldable pub askedOf : List ℕ → ℕ → ℕ → Asked

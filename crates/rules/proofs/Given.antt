@@ -1,7 +1,7 @@
 -- The ordered lists of checks give each number exactly when Given.antt says, and let a step through exactly when it is free.
-use Prim.Native.Nat.{ℕ}
+use Prim.Native.Nat.{ℕ, _≤_}
 use mathlib.Core.Path.{_≡_, refl, sym, _∙_, subst}
-use mathlib.Core.Bool.{true, false, not, _&&_}
+use mathlib.Core.Bool.{Bool, true, false, not, _&&_}
 use mathlib.Core.List.{List, [], _∷_}
 use mathlib.Core.Logic.{_↔_, _⊎_, inl, inr, ⊎-elim, ⊎-map}
 use mathlib.Core.Option.{Option, none, some, Option·some-injective, Option·some-ne-none}
@@ -11,7 +11,7 @@ use Rattle.rules.specs.Codes.{Step, begin, try, read, write, Kind, known
 use Rattle.rules.specs.Replies.{Refusal, notWellFormed, noHandler, noCell, alreadyOpen, notOpen, unknownStep, outOfRange, tooShort}
 use Rattle.rules.specs.Checks.{Check, _when_, firstHit, Asked, isBeyond, isBegin, stepChecks, inRange, openingChecks}
 use Rattle.rules.specs.Given.{Within, Beyond, Late, Heard, Placed, Given, phaseFor, Free, InRange, OpeningGiven}
-use Rattle.rules.proofs.Tables.{by, and-left, and-right, and-both, both-ways}
+use Rattle.rules.proofs.Tables.{and-iff, leb-iff, by, both-ways}
 
 -- Where each G gives its own answer, and one G holds or there is no answer, an answer is given exactly when its G holds.
 pub exactly : {A : Type 0} {answer : Option A} (G : A → Type 0) → ((f : A) → G f → answer ≡ some f)
@@ -23,6 +23,13 @@ exactly {answer = answer} G hits decided f = (
   where
     same : answer ≡ some f → (other : _) → G other → G f
     same e other g = subst G (Option·some-injective other f (sym (hits other g) ∙ e)) g
+
+-- No check of a list holds just when the first does not and none of the others does.
+pub none-holds : {A : Type 0} (a : A) (b : Bool) (checks : List (Check A))
+    → (firstHit ((a when b) ∷ checks) ≡ none) ↔ ((b ≡ false) × (firstHit checks ≡ none))
+unfolding firstHit
+none-holds a true checks = (λ e. absurd (Option·some-ne-none a e), λ h. both-ways refl (h .0))
+none-holds a false checks = (λ e. (refl, e), λ h. h .1)
 
 -- ── Cells named by a step ─────────────────────────────────────────────
 
@@ -151,17 +158,16 @@ free-exactly a = (
 -- The test of m and n answers exactly that they are in range.
 pub range-tested : (m n : ℕ) → (inRange m n ≡ true) ↔ InRange m n
 unfolding inRange
-range-tested m n = (
-  λ e. record {
-    someCell = leb-true 1 m (and-left (leb 1 m) _ (and-left (leb 1 m && leb m 32) _ e));
-    cells = leb-true m 32 (and-right (leb 1 m) _ (and-left (leb 1 m && leb m 32) _ e));
-    someHandler = leb-true 1 n (and-left (leb 1 n) _ (and-right (leb 1 m && leb m 32) _ e));
-    handlers = leb-true n 16 (and-right (leb 1 n) _ (and-right (leb 1 m && leb m 32) _ e));
-  },
-  λ r. and-both (leb 1 m && leb m 32) _
-      (and-both (leb 1 m) _ (le-leb 1 m (r .someCell)) (le-leb m 32 (r .cells)))
-      (and-both (leb 1 n) _ (le-leb 1 n (r .someHandler)) (le-leb n 16 (r .handlers))),
-)
+range-tested m n = simp (and-iff, leb-iff) (to, from)
+  where
+    Each : Type 0
+    Each = ((1 ≤ m) × (m ≤ 32)) × ((1 ≤ n) × (n ≤ 16))
+
+    to : Each → InRange m n
+    to r = record { someCell = r .0 .0; cells = r .0 .1; someHandler = r .1 .0; handlers = r .1 .1 }
+
+    from : InRange m n → Each
+    from r = ((r .someCell, r .cells), (r .someHandler, r .handlers))
 
 -- The checks of an opening give each number exactly then.
 pub opening-exactly : (m n long need : ℕ) (refusal : Refusal)

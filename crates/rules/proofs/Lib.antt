@@ -4,5 +4,8 @@ pub mod Numbers
 pub mod Given
 pub mod Turns
 pub mod Properties
-pub mod Aborts
-pub mod OnTables
+pub mod WhenAborted
+pub mod Ways
+pub mod Bounds
+pub mod Confined
+pub mod AllCases

@@ -1,11 +1,12 @@
 -- Laws of tests, of what is lowest below a number of places, and of tables.
-use Prim.Native.Nat.{ℕ, zero, suc, _<_}
+use Prim.Native.Nat.{ℕ, zero, suc, _≤_, _<_}
 use native.Mathlib.Omega.{arith}
 use mathlib.Core.Path.{_≡_, refl, sym, ap, _∙_, fun-ext, subst}
 use mathlib.Core.Bool.{Bool, true, false, _&&_, _||_, true≢false, false≢true}
 use mathlib.Core.Option.{Option, none, some, Option·some-injective, Option·some-ne-none}
-use lib.Dec.{eqb}
-use borrow.Author.Tests.{eqb-true, eqb-false, eq-eqb, ne-eqb}
+use lib.Dec.{eqb, leb}
+use mathlib.Core.Logic.{_↔_}
+use borrow.Author.Tests.{leb-true, le-leb, eqb-true, eqb-false, eq-eqb, ne-eqb}
 use Rattle.rules.specs.Tables.{put, orElse, lowest, someBelow}
 
 -- ── Tests ─────────────────────────────────────────────────────────────
@@ -30,6 +31,14 @@ and-right false b e = absurd (false≢true e)
 pub and-both : (a b : Bool) → a ≡ true → b ≡ true → a && b ≡ true
 and-both true b p q = q
 and-both false b p q = p
+
+-- Two tests hold together just when each holds.
+pub and-iff : (a b : Bool) → (a && b ≡ true) ↔ ((a ≡ true) × (b ≡ true))
+and-iff a b = (λ e. (and-left a b e, and-right a b e), λ h. and-both a b (h .0) (h .1))
+
+-- The test of order answers the order.
+pub leb-iff : (a b : ℕ) → (leb a b ≡ true) ↔ (a ≤ b)
+leb-iff a b = (leb-true a b, le-leb a b)
 
 pub or-left : (a b : Bool) → a || b ≡ false → a ≡ false
 or-left true b e = e
@@ -122,3 +131,18 @@ put-other f i a j ne = rw (ne-eqb j i ne)
 pub put-same {ℓ} : {A : Type ℓ} (f : ℕ → A) (i : ℕ) (a : A) → f i ≡ a → put f i a ≡ f
 unfolding put
 put-same f i a q = fun-ext (λ j. by (eqb j i) (λ e. rw e (sym (ap f (eqb-true j i e) ∙ q))) (λ e. rw e))
+
+-- A table with an entry put into it, seen through a function, is the table seen so with the entry seen so put into it.
+pub put-map {ℓ κ} : {A : Type ℓ} {B : Type κ} (g : A → B) (f : ℕ → A) (i : ℕ) (a : A) (j : ℕ)
+    → g (put f i a j) ≡ put (λ k. g (f k)) i (g a) j
+unfolding put
+put-map g f i a j = by (eqb j i) (λ e. rw e) (λ e. rw e)
+
+-- From place m on the table holds one and the same entry.
+abbrev pub SameFrom {ℓ} : {A : Type ℓ} → ℕ → A → (ℕ → A) → Type ℓ
+SameFrom m rest table = (y : ℕ) → m ≤ y → table y ≡ rest
+
+-- An entry put below m is none of those beyond.
+pub put-beyond {ℓ} : {A : Type ℓ} {m x : ℕ} {rest : A} {table : ℕ → A} (a : A)
+    → x < m → SameFrom m rest table → SameFrom m rest (put table x a)
+put-beyond {m = m} {x = x} {table = table} a inside beyond y l = put-other table x a y (omega arith) ∙ beyond y l

@@ -29,7 +29,7 @@ module _ {W : Type 0} (S : Setting W) (n : ℕ) (wellFormed : Bool) (r : Registe
 
   -- A step that is free is taken.
   pub free-turn : (s : Step) → Free (asked S n wellFormed r i code) s → turn S n wellFormed r i code v ≡ takenTurn S r i code v s
-  unfolding turn refusalOf turned asked
+  unfolding turn refusalOf turned
   free-turn s f = rw (free-exactly (asked S n wellFormed r i code) .1 (s, f), f .placed .heard .known)
 
   -- A step is refused with each number exactly when it is given.
@@ -50,3 +50,12 @@ module _ {W : Type 0} (S : Setting W) (n : ℕ) (wellFormed : Bool) (r : Registe
   -- A refused step changes nothing.
   pub refused-unchanged : (refusal : Refusal) → turn S n wellFormed r i code v .reply ≡ Reply.refused refusal → turn S n wellFormed r i code v .after ≡ r
   refused-unchanged refusal e = ap (λ t. t .after) (given-turn refusal (turn-given refusal .0 e))
+
+  -- What holds of a register, and of what every step that is free leaves, holds of what a turn leaves.
+  pub turn-leaves : (P : Register W → Type 0) → P r
+      → ((s : Step) → Free (asked S n wellFormed r i code) s → P (step S r i s v .after)) → P (turn S n wellFormed r i code v .after)
+  turn-leaves P stays steps = decides (verdict (asked S n wellFormed r i code))
+    where
+      decides : Verdict (asked S n wellFormed r i code) → P (turn S n wellFormed r i code v .after)
+      decides (inl (refusal, g)) = rw (given-turn refusal g) stays
+      decides (inr (s, free)) = rw (free-turn s free) (steps s free)

@@ -15,7 +15,7 @@ pub record Turn (W : Type 0) : Type 0 where
   pub after : Register W
 
 -- What is asked of a register of S's cells and n handlers by handler i with a code.
-unfoldable pub asked : {W : Type 0} → Setting W → ℕ → Bool → Register W → ℕ → ℕ → Asked
+abbrev pub asked : {W : Type 0} → Setting W → ℕ → Bool → Register W → ℕ → ℕ → Asked
 asked S n wellFormed r i code = record {
   wellFormed = wellFormed;
   cellCount = S .cellCount;

@@ -11,7 +11,7 @@ use Rattle.rules.specs.Register.{Register, withHandler, idle, blank, fre
 use Rattle.rules.specs.Checks.{firstHit, stepChecks}
 use Rattle.rules.specs.Figure.{joined, taken, wrote, shown, stamped, stored, begun, isTorn, isOvertaken, isSpent}
 use Rattle.rules.specs.Figure.{aborting, committing, unlessAborted, readChecks, tryChecks, firstRead, reading, trying, step}
-use Rattle.rules.specs.Turn.{asked, refusalOf, turned, turn}
+use Rattle.rules.specs.Turn.{refusalOf, turned, turn}
 use Rattle.rules.specs.Cases.{Line, Start, opened, given, End, register, loose, Case, cases}
 
 -- A row that opens a register of m cells and n handlers and ends with one.
@@ -68,5 +68,5 @@ unfolding made said play cellsIn entries rowOf rowsOf cases
     put orElse lowest someBelow kindOf
     withHandler idle blank fresh firstHit stepChecks
     joined taken wrote shown stamped stored begun isTorn isOvertaken isSpent aborting committing
-    unlessAborted readChecks tryChecks firstRead reading trying step asked refusalOf turned turn
+    unlessAborted readChecks tryChecks firstRead reading trying step refusalOf turned turn
 on-tables = refl

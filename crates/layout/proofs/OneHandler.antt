@@ -1,0 +1,88 @@
+-- A change of one handler changes just that handler's block, and a change of one cell just that cell's words: words that are
+-- the same but for that part hold the changed register, and of poured words nothing else is another.
+use Prim.Native.Nat.{ℕ, _+_, _≤_, _<_}
+use mathlib.Core.Path.{_≡_, sym, _∙_, subst}
+use mathlib.Core.List.{List, [], _++_, append-nil}
+use native.Mathlib.Omega.{arith}
+use lib.ListN.{length, take, drop}
+use Rattle.rules.specs.Tables.{put}
+use Rattle.rules.specs.Register.{Cell, Handler, Register, withHandler}
+use Rattle.rules.proofs.Tables.{put-map}
+use Rattle.layout.specs.Places.{cellLong, handlerLong, size, cellStart, handlerStart, cellPart, handlerPart}
+use Rattle.layout.specs.View.{pourCell, pourHandler, pour}
+use Rattle.layout.proofs.Places.{handlersStart, cell-ends, cell-fits, handler-fits}
+use Rattle.layout.proofs.Blocks.{poured-handler}
+use Rattle.layout.proofs.Holds.{Holds, holds-is, pour-holds, pour-length}
+use Rattle.layout.proofs.Untouched.{Untouched, part-before, part-after, drop-after, rows-changed, splice, splice-part, splice-untouched}
+
+-- The register with another cell at place c.
+abbrev pub withCell : Register ℕ → ℕ → Cell ℕ → Register ℕ
+withCell r c cell = record { cells = put (r .cells) c cell; handlers = r .handlers }
+
+module _ {m n : ℕ} {r : Register ℕ} {rest words after : List ℕ} (holds : Holds m n r rest words) where
+  -- Words that are the same but for a part of the register behind m and n hold whatever register their cells and blocks do.
+  pub part-changed : {from long : ℕ} (other : Register ℕ) → 2 ≤ from → from + long ≤ size m n → Untouched from long words after
+      → ((c : ℕ) → c < m → cellPart m after c ≡ pourCell m (other .cells c))
+      → ((i : ℕ) → i < n → handlerPart m after i ≡ pourHandler m (other .handlers i))
+      → Holds m n other rest after
+  part-changed other starts ends same cells handlers = record {
+    fits = omega (arith, holds .fits, same .size);
+    cellCount = same .below 0 (omega arith) ∙ holds .cellCount;
+    handlerCount = same .below 1 (omega arith) ∙ holds .handlerCount;
+    cells = cells;
+    handlers = handlers;
+    beyond = drop-after same (size m n) ends ∙ holds .beyond;
+  }
+
+  -- Words with another block for handler i hold the register with that handler.
+  pub handler-changed : (i : ℕ) (h : Handler ℕ) → i < n → Untouched (handlerStart m i) (handlerLong m) words after
+      → handlerPart m after i ≡ pourHandler m h → Holds m n (withHandler r i h) rest after
+  unfolding withHandler
+  handler-changed i h inside same here =
+      part-changed (withHandler r i h) (omega arith) (handler-fits m n i inside) same cells handlers
+    where
+      cells : (c : ℕ) → c < m → cellPart m after c ≡ pourCell m (r .cells c)
+      cells c l = part-before same (cellStart m c) (cellLong m) (omega (arith, cell-ends m c l)) ∙ holds .cells c l
+
+      handlers : (j : ℕ) → j < n → handlerPart m after j ≡ pourHandler m (put (r .handlers) i h j)
+      handlers j l =
+          rows-changed (handlersStart m) n (handlerLong m) _ i _ words after same here (holds .handlers) j l
+          ∙ sym (put-map (pourHandler m) (r .handlers) i h j)
+
+  -- Words with others for cell c hold the register with that cell.
+  pub cell-changed : (c : ℕ) (cell : Cell ℕ) → c < m → Untouched (cellStart m c) (cellLong m) words after
+      → cellPart m after c ≡ pourCell m cell → Holds m n (withCell r c cell) rest after
+  cell-changed c cell inside same here =
+      part-changed (withCell r c cell) (omega arith) (cell-fits m n c inside) same cells handlers
+    where
+      cells : (x : ℕ) → x < m → cellPart m after x ≡ pourCell m (put (r .cells) c cell x)
+      cells x l =
+          rows-changed 2 m (cellLong m) _ c _ words after same here (holds .cells) x l
+          ∙ sym (put-map (pourCell m) (r .cells) c cell x)
+
+      handlers : (i : ℕ) → i < n → handlerPart m after i ≡ pourHandler m (r .handlers i)
+      handlers i l =
+          part-after same (handlerStart m i) (handlerLong m) (omega (arith, cell-ends m c inside)) ∙ holds .handlers i l
+
+-- With another handler i, the words of a register are as before, but for that handler's block.
+pub one-handler : (m n : ℕ) (r : Register ℕ) (i : ℕ) (h : Handler ℕ) → i < n
+    → pour m n (withHandler r i h)
+    ≡ take (handlerStart m i) (pour m n r) ++ (pourHandler m h ++ drop (handlerStart m i + handlerLong m) (pour m n r))
+one-handler m n r i h inside = sym (holds-is changed ∙ append-nil _)
+  where
+    words : List ℕ
+    words = pour m n r
+
+    before : Holds m n r [] (pour m n r)
+    before = subst (Holds m n r []) (append-nil (pour m n r)) (pour-holds m n r [])
+
+    block : length (pourHandler m h) ≡ handlerLong m
+    block = poured-handler m h .size
+
+    fits : handlerStart m i + handlerLong m ≤ length (pour m n r)
+    fits = omega (arith, handler-fits m n i inside, pour-length m n r)
+
+    changed : Holds m n (withHandler r i h) [] (splice (handlerStart m i) (handlerLong m) (pourHandler m h) (pour m n r))
+    changed = handler-changed before i h inside
+        (splice-untouched (handlerStart m i) (handlerLong m) (pourHandler m h) words block fits)
+        (splice-part (handlerStart m i) (handlerLong m) (pourHandler m h) words block fits)
