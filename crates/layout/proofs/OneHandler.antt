@@ -11,8 +11,8 @@ use Rattle.rules.proofs.Tables.{put-map}
 use Rattle.layout.specs.Places.{cellLong, handlerLong, size, cellStart, handlerStart, cellPart, handlerPart}
 use Rattle.layout.specs.View.{pourCell, pourHandler, pour}
 use Rattle.layout.proofs.Places.{handlersStart, cell-ends, cell-fits, handler-fits}
-use Rattle.layout.proofs.Blocks.{poured-handler}
-use Rattle.layout.proofs.Holds.{Holds, holds-is, pour-holds, pour-length}
+use Rattle.layout.proofs.Blocks.{poured-cell, poured-handler}
+use Rattle.layout.proofs.Holds.{Holds, holds-is, pour-holds}
 use Rattle.layout.proofs.Untouched.{Untouched, part-before, part-after, drop-after, rows-changed, splice, splice-part, splice-untouched}
 
 -- The register with another cell at place c.
@@ -64,25 +64,34 @@ module _ {m n : ℕ} {r : Register ℕ} {rest words after : List ℕ} (holds : H
       handlers i l =
           part-after same (handlerStart m i) (handlerLong m) (omega (arith, cell-ends m c inside)) ∙ holds .handlers i l
 
+module _ {m n : ℕ} {r : Register ℕ} {rest words : List ℕ} (holds : Holds m n r rest words) where
+  -- With another block put in, words hold the register with that handler.
+  pub block-put : (i : ℕ) (h : Handler ℕ) → i < n
+      → Holds m n (withHandler r i h) rest (splice (handlerStart m i) (handlerLong m) (pourHandler m h) words)
+  block-put i h inside =
+      handler-changed holds i h inside
+      (splice-untouched (handlerStart m i) (handlerLong m) (pourHandler m h) words (poured-handler m h .size) fits)
+      (splice-part (handlerStart m i) (handlerLong m) (pourHandler m h) words (poured-handler m h .size) fits)
+    where
+      fits : handlerStart m i + handlerLong m ≤ length words
+      fits = omega (arith, handler-fits m n i inside, holds .fits)
+
+  -- With other words put in for a cell, words hold the register with that cell.
+  pub cell-put : (c : ℕ) (cell : Cell ℕ) → c < m
+      → Holds m n (withCell r c cell) rest (splice (cellStart m c) (cellLong m) (pourCell m cell) words)
+  cell-put c cell inside =
+      cell-changed holds c cell inside
+      (splice-untouched (cellStart m c) (cellLong m) (pourCell m cell) words (poured-cell m cell .size) fits)
+      (splice-part (cellStart m c) (cellLong m) (pourCell m cell) words (poured-cell m cell .size) fits)
+    where
+      fits : cellStart m c + cellLong m ≤ length words
+      fits = omega (arith, cell-fits m n c inside, holds .fits)
+
 -- With another handler i, the words of a register are as before, but for that handler's block.
 pub one-handler : (m n : ℕ) (r : Register ℕ) (i : ℕ) (h : Handler ℕ) → i < n
     → pour m n (withHandler r i h)
     ≡ take (handlerStart m i) (pour m n r) ++ (pourHandler m h ++ drop (handlerStart m i + handlerLong m) (pour m n r))
-one-handler m n r i h inside = sym (holds-is changed ∙ append-nil _)
+one-handler m n r i h inside = sym (holds-is (block-put before i h inside) ∙ append-nil _)
   where
-    words : List ℕ
-    words = pour m n r
-
     before : Holds m n r [] (pour m n r)
     before = subst (Holds m n r []) (append-nil (pour m n r)) (pour-holds m n r [])
-
-    block : length (pourHandler m h) ≡ handlerLong m
-    block = poured-handler m h .size
-
-    fits : handlerStart m i + handlerLong m ≤ length (pour m n r)
-    fits = omega (arith, handler-fits m n i inside, pour-length m n r)
-
-    changed : Holds m n (withHandler r i h) [] (splice (handlerStart m i) (handlerLong m) (pourHandler m h) (pour m n r))
-    changed = handler-changed before i h inside
-        (splice-untouched (handlerStart m i) (handlerLong m) (pourHandler m h) words block fits)
-        (splice-part (handlerStart m i) (handlerLong m) (pourHandler m h) words block fits)

@@ -43,7 +43,7 @@ opening-unchanged {words} {m} {n} p refusal e =
 -- A step is refused with each number exactly then.
 pub step-refused : {words : List ℕ} {handler code value : ℕ} {reply : Reply ℕ} {after : List ℕ} → StepPromise words handler code value reply after
     → (refusal : Refusal) → (reply ≡ Reply.refused refusal) ↔ Given refusal (askedOf words handler code)
-unfolding askedOf turnOf
+unfolding turnOf
 step-refused p refusal =
     let given = turn-given _ _ _ _ _ _ _ refusal in
     (λ e. given .0 (sym (p .replied) ∙ e), λ g. p .replied ∙ given .1 g)

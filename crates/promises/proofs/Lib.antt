@@ -1,3 +1,5 @@
--- The promises are tight, and give each refusal exactly then.
+-- The promises are tight, give each refusal exactly then, and leave what the rules leave.
 pub mod Tight
 pub mod Exactly
+pub mod Leaves
+pub mod OneBlock

@@ -11,7 +11,7 @@ use Rattle.layout.specs.View.{wordSetting, view, holding}
 use Rattle.layout.specs.WellFormed.{isWellFormed}
 
 -- What is asked of the register that the words say.
-unfoldable pub askedOf : List ℕ → ℕ → ℕ → Asked
+abbrev pub askedOf : List ℕ → ℕ → ℕ → Asked
 askedOf words handler code =
     let m = cellsOf words in
     let n = handlersOf words in

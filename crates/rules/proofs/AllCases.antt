@@ -15,27 +15,27 @@ use Rattle.rules.specs.Turn.{refusalOf, turned, turn}
 use Rattle.rules.specs.Cases.{Line, Start, opened, given, End, register, loose, Case, cases}
 
 -- A row that opens a register of m cells and n handlers and ends with one.
-record Row : Type 0 where
-  m : ℕ
-  n : ℕ
-  lines : List Line
-  cells : List (List ℕ)
+pub record Row : Type 0 where
+  pub m : ℕ
+  pub n : ℕ
+  pub lines : List Line
+  pub cells : List (List ℕ)
 
 -- The row of a case, if it is such a one.
-rowOf : List Line → Start → End → List Row
+pub rowOf : List Line → Start → End → List Row
 rowOf lines (opened m n long reply) (register cells handlers beyond) = record { m = m; n = n; lines = lines; cells = cells } ∷ []
 rowOf lines (opened m n long reply) (loose words) = []
 rowOf lines (given words) (register cells handlers beyond) = []
 rowOf lines (given words) (loose others) = []
 
-rowsOf : List Case → List Row
+pub rowsOf : List Case → List Row
 rowsOf [] = []
 rowsOf (c ∷ rest) = rowOf (c .lines) (c .start) (c .end) ++ rowsOf rest
 
 -- Replies, and the cells at the end.
-record Played : Type 0 where
-  replies : List Numbers
-  cells : List (List ℕ)
+pub record Played : Type 0 where
+  pub replies : List Numbers
+  pub cells : List (List ℕ)
 
 -- The first k entries of a table, in order.
 entries : {A : Type 0} → ℕ → (ℕ → A) → List A
@@ -55,15 +55,15 @@ play m n r (l ∷ lines) =
     record { replies = replyNumbers (t .reply) ∷ rest .replies; cells = rest .cells }
 
 -- What the rules make of a row.
-made : Row → Played
+pub made : Row → Played
 made row = play (row .m) (row .n) (fresh (record { empty = 0; cellCount = row .m })) (row .lines)
 
 -- What a row says.
-said : Row → Played
+pub said : Row → Played
 said row = record { replies = map (λ l. l .reply) (row .lines); cells = row .cells }
 
 -- The rules make of each row what it says.
-on-tables : map made (rowsOf cases) ≡ map said (rowsOf cases)
+pub on-tables : map made (rowsOf cases) ≡ map said (rowsOf cases)
 unfolding made said play cellsIn entries rowOf rowsOf cases
     put orElse lowest someBelow kindOf
     withHandler idle blank fresh firstHit stepChecks

@@ -34,7 +34,7 @@ module _ {W : Type 0} (S : Setting W) where
       → OneHandler r i (result .after) → OneHandler r i (unlessAborted S r i h o result .after)
   unfolding unlessAborted aborting
   aborted-one r i h none result one = one
-  aborted-one r i h (some reason) result one = one-changed r i (idle S (h .numbers))
+  aborted-one r i h (some reason) result one = one-changed r i _
 
   reading-one : (r : Register W) (i : ℕ) (h : Handler W) (x : ℕ) → OneHandler r i (reading S r i h x .after)
   unfolding reading firstRead

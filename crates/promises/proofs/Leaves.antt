@@ -1,0 +1,147 @@
+-- What the promises leave: as many words as before, every word beyond the register as it was, and a well-formed register that
+-- says what the rules say.
+use Prim.Native.Nat.{ℕ, _≤_}
+use mathlib.Core.Path.{_≡_, refl, sym, ap, _∙_, subst}
+use mathlib.Core.Bool.{true, false, not}
+use mathlib.Core.List.{List, []}
+use mathlib.Core.Logic.{_⊎_, inl, inr}
+use mathlib.Core.Option.{Option, none, some}
+use native.Mathlib.Omega.{arith}
+use lib.Dec.{ltb}
+use lib.ListN.{length, drop}
+use borrow.Author.Tests.{ltb-false, not-false}
+use Rattle.rules.specs.Codes.{Step}
+use Rattle.rules.specs.Replies.{Refusal, Reply, ready}
+use Rattle.rules.specs.Register.{fresh}
+use Rattle.rules.specs.Checks.{firstHit, inRange, openingChecks}
+use Rattle.rules.specs.Given.{Free}
+use Rattle.rules.specs.Figure.{Result, step}
+use Rattle.rules.proofs.Given.{none-holds, Verdict, verdict}
+use Rattle.rules.proofs.Turns.{refusedTurn, takenTurn, given-turn, free-turn}
+use Rattle.rules.proofs.Confined.{Confined, step-confined, fresh-confined}
+use Rattle.layout.specs.Places.{cellsOf, handlersOf, size}
+use Rattle.layout.specs.View.{wordSetting, view, holding}
+use Rattle.layout.specs.WellFormed.{WellFormed}
+use Rattle.layout.proofs.Tested.{tested}
+use Rattle.layout.proofs.Holds.{pour-holds, pour-over-length}
+use Rattle.layout.proofs.ViewPour.{view-pour, view-confined}
+use Rattle.layout.proofs.Kept.{Keeps, fresh-well-formed, step-kept}
+use Rattle.promises.specs.Opening.{openingRefusal, openingReply, openingWords, OpeningPromise}
+use Rattle.promises.specs.Stepping.{askedOf, turnOf, stepWords, StepPromise}
+
+-- A step that is refused: the words are as they were.
+pub record Stopped (words : List ℕ) (handler code value : ℕ) (after : List ℕ) : Type 0 where
+  pub refusal : Refusal
+  pub turn : turnOf words handler code value ≡ refusedTurn (view (cellsOf words) (handlersOf words) words) refusal
+  pub unchanged : after ≡ words
+
+-- The rules' result of a step on the register that the words say.
+abbrev pub resultOf : List ℕ → ℕ → Step → ℕ → Result ℕ
+resultOf words handler s value = step (wordSetting (cellsOf words)) (view (cellsOf words) (handlersOf words) words) handler s value
+
+-- A step that is taken: the words were well formed, and the rules' register stands in front of them.
+pub record Taken (words : List ℕ) (handler code value : ℕ) (after : List ℕ) : Type 0 where
+  pub what : Step
+  pub free : Free (askedOf words handler code) what
+  pub turn : turnOf words handler code value
+      ≡ takenTurn (wordSetting (cellsOf words)) (view (cellsOf words) (handlersOf words) words) handler code value what
+  pub holds : after ≡ holding words (cellsOf words) (handlersOf words) (resultOf words handler what value .after)
+
+module _ {words : List ℕ} {handler code value : ℕ} {reply : Reply ℕ} {after : List ℕ} (p : StepPromise words handler code value reply after) where
+  -- A step is refused or taken.
+  pub stopped-or-taken : Stopped words handler code value after ⊎ Taken words handler code value after
+  unfolding turnOf stepWords
+  stopped-or-taken = ways (verdict (askedOf words handler code))
+    where
+      ways : Verdict (askedOf words handler code) → Stopped words handler code value after ⊎ Taken words handler code value after
+      ways (inl (refusal, given)) =
+          let turn = given-turn _ _ _ _ _ _ value refusal given in
+          inl (record { refusal = refusal; turn = turn; unchanged = p .left ∙ rw turn })
+      ways (inr (s, free)) =
+          let turn = free-turn _ _ _ _ _ _ value s free in
+          inr (record { what = s; free = free; turn = turn; holds = p .left ∙ rw turn })
+
+  -- A well-formed register stays one, with as many cells, handlers and words.
+  pub step-keeps : WellFormed words → Keeps words after
+  step-keeps w = ways stopped-or-taken
+    where
+      ways : Stopped words handler code value after ⊎ Taken words handler code value after → Keeps words after
+      ways (inl s) = rw (s .unchanged) (record { wellFormed = w; cellCount = refl; handlerCount = refl; size = refl })
+      ways (inr t) = rw (t .holds) (step-kept words w handler (t .free .placed .heard .handler) (t .what) (t .free .placed .cell) value)
+
+  -- The words say the register that the rules leave.
+  pub step-says : view (cellsOf words) (handlersOf words) after ≡ turnOf words handler code value .after
+  step-says = ways stopped-or-taken
+    where
+      ways : Stopped words handler code value after ⊎ Taken words handler code value after
+          → view (cellsOf words) (handlersOf words) after ≡ turnOf words handler code value .after
+      ways (inl s) = rw (s .unchanged, s .turn)
+      ways (inr t) = rw (t .holds, t .turn) (view-pour _ _ _ _ confined)
+        where
+          confined : Confined (wordSetting (cellsOf words)) (handlersOf words) (resultOf words handler (t .what) value .after)
+          confined = step-confined _ _ _ (view-confined _ _ words) handler (t .free .placed .heard .handler) (t .what) (t .free .placed .cell) value
+
+  -- As many words as before.
+  pub step-size : length after ≡ length words
+  step-size = ways stopped-or-taken
+    where
+      ways : Stopped words handler code value after ⊎ Taken words handler code value after → length after ≡ length words
+      ways (inl s) = ap length (s .unchanged)
+      ways (inr t) = step-keeps (tested words .0 (t .free .placed .heard .wellFormed)) .size
+
+  -- Words beyond the register's length are never changed.
+  pub step-beyond : drop (size (cellsOf words) (handlersOf words)) after ≡ drop (size (cellsOf words) (handlersOf words)) words
+  step-beyond = ways stopped-or-taken
+    where
+      ways : Stopped words handler code value after ⊎ Taken words handler code value after
+          → drop (size (cellsOf words) (handlersOf words)) after ≡ drop (size (cellsOf words) (handlersOf words)) words
+      ways (inl s) = rw (s .unchanged)
+      ways (inr t) = rw (t .holds) (pour-holds (cellsOf words) (handlersOf words) (resultOf words handler (t .what) value .after) _ .beyond)
+
+-- ── Opening ───────────────────────────────────────────────────────────
+
+opening-passes : (o : Option Refusal) → openingReply o ≡ ready → o ≡ none
+unfolding openingReply
+opening-passes none e = refl
+opening-passes (some refusal) e = absurd (let z : _≡_ {A = ℕ} 0 1 = cc in omega arith)
+
+-- An opening that is ready: m and n are in range, and a fresh register stands in front of the words.
+pub record Ready (words : List ℕ) (m n : ℕ) (after : List ℕ) : Type 0 where
+  pub wellFormed : WellFormed after
+  pub cellCount : cellsOf after ≡ m
+  pub handlerCount : handlersOf after ≡ n
+  pub says : view m n after ≡ fresh (wordSetting m)
+  pub long : length after ≡ length words
+  pub beyond : drop (size m n) after ≡ drop (size m n) words
+
+-- The words with a fresh register in front, where m and n are in range and the words are long enough.
+fresh-ready : (words : List ℕ) (m n : ℕ) → inRange m n ≡ true → size m n ≤ length words
+    → Ready words m n (holding words m n (fresh (wordSetting m)))
+fresh-ready words m n ranged fits =
+    let rest = drop (size m n) words in
+    let holds = pour-holds m n (fresh (wordSetting m)) rest in
+    record {
+      wellFormed = fresh-well-formed m n rest ranged;
+      cellCount = holds .cellCount;
+      handlerCount = holds .handlerCount;
+      says = view-pour m n (fresh (wordSetting m)) rest (fresh-confined (wordSetting m) n);
+      long = pour-over-length m n (fresh (wordSetting m)) words fits;
+      beyond = holds .beyond;
+    }
+
+-- What an opening that is ready leaves.
+pub opening-ready : {words : List ℕ} {m n : ℕ} {after : List ℕ} → OpeningPromise words m n ready after → Ready words m n after
+unfolding openingWords openingRefusal openingChecks
+opening-ready {words} {m} {n} {after} p = subst (Ready words m n) (sym (p .left ∙ rw passes)) (fresh-ready words m n ranged fits)
+  where
+    passes : openingRefusal words m n ≡ none
+    passes = opening-passes (openingRefusal words m n) (sym (p .replied))
+
+    each : (not (inRange m n) ≡ false) × ((ltb (length words) (size m n) ≡ false) × (_≡_ {A = Option Refusal} (firstHit []) none))
+    each = simp none-holds at passes
+
+    ranged : inRange m n ≡ true
+    ranged = not-false (inRange m n) (each .0)
+
+    fits : size m n ≤ length words
+    fits = ltb-false (length words) (size m n) (each .1 .0)

@@ -1,0 +1,61 @@
+-- A begin or a write changes one handler's block, a part in the middle of the register, and no word outside it. So does a read.
+use Prim.Native.Nat.{ℕ, _+_, _≤_, _<_}
+use native.Mathlib.Omega.{arith}
+use mathlib.Core.Path.{_≡_, sym, ap, _∙_, subst, fun-ext}
+use mathlib.Core.List.{List}
+use lib.Dec.{eqb}
+use lib.ListN.{length, drop}
+use borrow.Author.Tests.{eqb-true, eqb-false}
+use Rattle.rules.specs.Tables.{put}
+use Rattle.rules.specs.Codes.{try}
+use Rattle.rules.specs.Register.{Handler, Register, withHandler}
+use Rattle.rules.proofs.Tables.{put-here, put-other, by}
+use Rattle.rules.proofs.Properties.{OneHandler, changes-one}
+use Rattle.layout.specs.Places.{cellsOf, handlersOf, size, handlerStart, handlerLong}
+use Rattle.layout.specs.View.{wordSetting, view, pourHandler, holding}
+use Rattle.layout.proofs.Tested.{tested}
+use Rattle.layout.proofs.PourView.{well-holds}
+use Rattle.layout.proofs.Holds.{Holds, holds-is}
+use Rattle.layout.proofs.Places.{handler-fits}
+use Rattle.layout.proofs.Blocks.{poured-handler}
+use Rattle.layout.proofs.OneHandler.{block-put}
+use Rattle.layout.proofs.Untouched.{Untouched, splice, splice-untouched}
+use Rattle.promises.proofs.Leaves.{Taken, resultOf}
+
+-- A register that is another but for handler i is that other with its handler i.
+one-handler-is : {W : Type 0} {r q : Register W} {i : ℕ} → OneHandler r i q → q ≡ withHandler r i (q .handlers i)
+unfolding withHandler
+one-handler-is {r = r} {q = q} {i = i} one = λ d. record { cells = one .cells d; handlers = handlers d }
+  where
+    handlers : q .handlers ≡ put (r .handlers) i (q .handlers i)
+    handlers = fun-ext (λ j. by (eqb j i)
+        (λ e. rw (eqb-true j i e, put-here))
+        (λ e. rw (put-other (r .handlers) i (q .handlers i) j (eqb-false j i e)) (one .others j (eqb-false j i e))))
+
+-- Of a step that is taken and is no try, no word outside the handler's block is another.
+pub block-only : {words : List ℕ} {handler code value : ℕ} {after : List ℕ} (t : Taken words handler code value after) → (t .what ≡ try → ⊥)
+    → Untouched (handlerStart (cellsOf words) handler) (handlerLong (cellsOf words)) words after
+block-only {words} {handler} {value = value} {after = after} t no-try =
+    subst (Untouched (handlerStart m handler) (handlerLong m) words) (sym after-is)
+    (splice-untouched (handlerStart m handler) (handlerLong m) (pourHandler m new) words (poured-handler m new .size) fits)
+  where
+    m : ℕ
+    m = cellsOf words
+
+    inside : handler < handlersOf words
+    inside = t .free .placed .heard .handler
+
+    holds : Holds m (handlersOf words) (view m (handlersOf words) words) (drop (size m (handlersOf words)) words) words
+    holds = well-holds words (tested words .0 (t .free .placed .heard .wellFormed))
+
+    new : Handler ℕ
+    new = resultOf words handler (t .what) value .after .handlers handler
+
+    fits : handlerStart m handler + handlerLong m ≤ length words
+    fits = omega (arith, handler-fits m (handlersOf words) handler inside, holds .fits)
+
+    changed : resultOf words handler (t .what) value .after ≡ withHandler (view m (handlersOf words) words) handler new
+    changed = one-handler-is (changes-one (wordSetting m) (view m (handlersOf words) words) handler (t .what) value no-try)
+
+    after-is : after ≡ splice (handlerStart m handler) (handlerLong m) (pourHandler m new) words
+    after-is = t .holds ∙ ap (holding words m (handlersOf words)) changed ∙ sym (holds-is (block-put holds handler new inside))
