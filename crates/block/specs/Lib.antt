@@ -1,0 +1,2 @@
+-- What the functions over a block do.
+pub mod Blocks

@@ -1,0 +1,95 @@
+// The checks of a try, and the numbers that a commit stores.
+ghost use mathlib.Core.Path.{_≡_};
+ghost use mathlib.Core.Bool.{not, _&&_};
+ghost use Prim.Native.Nat.{ℕ, _+_, _≤_, _<_};
+ghost use lib.Dec.{eqb};
+ghost use lib.ListN.{getD};
+ghost use Rattle.rules.specs.Tables.{if_then_else_};
+ghost use Rattle.layout.specs.Bits.{hasBit};
+ghost use Rattle.layout.specs.View.{viewHandler};
+ghost use Rattle.words.specs.Rows.{RowOf};
+ghost use Rattle.block.specs.Blocks.{Block, overtakenBy, spentBy, stampedBy, rowTable};
+
+// Cell y is in the read set, and its number is another.
+fn stale(read: u32, y: usize, held: u32, own: u32) -> bool
+    requires { ⌜ y < 32 ⌝ }
+    ensures { λ r. ⌜ r ≡ (hasBit read y && not (eqb held own)) ⌝ }
+{
+    if words::has(read, y) {
+        held != own
+    } else {
+        false
+    }
+}
+
+// Some cell of the read set has another number than its own.
+pub fn overtaken(block: &[u32], m: usize, own: &[u32; 32]) -> bool
+    requires { ⌜ Block m (now block) ⌝ }
+    ensures { λ r. ⌜ r ≡ overtakenBy m (viewHandler m (now (block .entry))) (rowTable (now (own .entry))) ⌝ }
+{
+    let read = block[1];
+    let transaction = 3 + m;
+    for y in 0..m {
+        let held = block[transaction + y];
+        let number = own[y];
+        if stale(read, y, held, number) {
+            return true;
+        }
+    }
+    false
+}
+
+// Cell y is in the written set, and its number can't be raised.
+fn full(written: u32, y: usize, own: u32) -> bool
+    requires { ⌜ y < 32 ⌝ }
+    ensures { λ r. ⌜ r ≡ (hasBit written y && eqb own 65535) ⌝ }
+{
+    if words::has(written, y) {
+        own == 65535
+    } else {
+        false
+    }
+}
+
+// Some written cell's number stands at 65,535.
+pub fn spent(block: &[u32], m: usize, own: &[u32; 32]) -> bool
+    requires { ⌜ Block m (now block) ⌝ }
+    ensures { λ r. ⌜ r ≡ spentBy m (viewHandler m (now (block .entry))) (rowTable (now (own .entry))) ⌝ }
+{
+    let written = block[2];
+    for y in 0..m {
+        let number = own[y];
+        if full(written, y, number) {
+            return true;
+        }
+    }
+    false
+}
+
+// A written cell's number one above its own, and any other as the transaction holds it.
+fn stamp(written: u32, y: usize, held: u32, own: u32) -> u32
+    requires { ⌜ (y < 32) × (own ≤ 65535) ⌝ }
+    ensures { λ r. ⌜ r ≡ (if hasBit written y then (own + 1) else held) ⌝ }
+{
+    if words::has(written, y) {
+        own + 1
+    } else {
+        held
+    }
+}
+
+// The transaction's numbers, with those of the written cells raised.
+pub fn stamps(block: &[u32], m: usize, own: &[u32; 32]) -> [u32; 32]
+    requires { ⌜ Block m (now block) × ((y : ℕ) → y < m → getD (now own) y 0 ≤ 65535) ⌝ }
+    ensures { λ r. ⌜ RowOf m (stampedBy (viewHandler m (now (block .entry))) (rowTable (now (own .entry)))) r ⌝ }
+{
+    let written = block[2];
+    let transaction = 3 + m;
+    let mut row = [0u32; 32];
+    for y in 0..m {
+        let held = block[transaction + y];
+        let number = own[y];
+        row[y] = stamp(written, y, held, number);
+    }
+    row
+}

@@ -1,0 +1,9 @@
+-- Faults that are gathered: a number that is small enough to go on adding, and 0 exactly where all is well.
+use Prim.Native.Nat.{ℕ, _≤_}
+use mathlib.Core.Path.{_≡_}
+use mathlib.Core.Logic.{_↔_}
+
+-- At most so many faults, and none exactly where the statement holds.
+pub record Faults (most : ℕ) (Good : Type 0) (faults : ℕ) : Type 0 where
+  pub small : faults ≤ most
+  pub none : (faults ≡ 0) ↔ Good

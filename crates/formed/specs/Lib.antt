@@ -1,0 +1,2 @@
+-- What the test of words gathers.
+pub mod Faults

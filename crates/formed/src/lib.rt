@@ -1,0 +1,112 @@
+// Whether words are a register. Faults are gathered over whole rows and looked at once, so that a row needs no early exit.
+// Internal: called by our crates alone, which show what each function requires.
+ghost use mathlib.Core.Path.{_≡_};
+ghost use Prim.Native.Nat.{ℕ, _+_, _*_, _≤_, _<_};
+ghost use lib.ListN.{length, getD};
+ghost use Rattle.rules.specs.Checks.{inRange};
+ghost use Rattle.layout.specs.Places.{size, handlerLong, cellPart, handlerPart, numberIn};
+ghost use Rattle.layout.specs.WellFormed.{GoodBlock, isWellFormed};
+ghost use Rattle.formed.specs.Faults.{Faults};
+
+// How far the numbers of a row lie above 65,535: 0 exactly where none does.
+fn row_faults(row: &[u32]) -> u32
+    requires { ⌜ length (now row) ≤ 64 ⌝ }
+    ensures { λ r. ⌜ Faults (64 * 65535) ((y : ℕ) → y < length (now (row .entry)) → getD (now (row .entry)) y 0 ≤ 65535) r ⌝ }
+{
+    let mut faults = 0u32;
+    for y in 0..row.len() {
+        faults = faults + row[y] / 65536;
+    }
+    faults
+}
+
+// The faults of one handler's block: its phase, its two sets and its two vectors of numbers.
+fn block_faults(block: &[u32], m: usize) -> u64
+    requires { ⌜ (length (now block) ≡ handlerLong m) × (m ≤ 32) ⌝ }
+    ensures { λ r. ⌜ Faults 20000000000 (GoodBlock m (now (block .entry))) r ⌝ }
+{
+    let phase = block[0] / 2;
+    let read = (block[1] as u64) >> m;
+    let written = (block[2] as u64) >> m;
+    let end = 3 + 2 * m;
+    let numbers = row_faults(&block[3..end]);
+    (phase as u64) + read + written + (numbers as u64)
+}
+
+// The faults of all cells.
+fn cells_faults(words: &[u32], m: usize) -> u64
+    requires { ⌜ (m ≤ 32) × (size m 0 ≤ length (now words)) ⌝ }
+    ensures { λ r. ⌜ Faults 1000000000 ((c : ℕ) → c < m → (y : ℕ) → y < m → numberIn (cellPart m (now (words .entry)) c) y ≤ 65535) r ⌝ }
+{
+    let mut faults = 0u64;
+    for c in 0..m {
+        let a = 3 + c * (m + 1);
+        let e = a + m;
+        let more = row_faults(&words[a..e]);
+        faults = faults + (more as u64);
+    }
+    faults
+}
+
+// The faults of all handlers.
+fn blocks_faults(words: &[u32], m: usize, n: usize) -> u64
+    requires { ⌜ (m ≤ 32) × (n ≤ 16) × (size m n ≤ length (now words)) ⌝ }
+    ensures { λ r. ⌜ Faults 400000000000 ((i : ℕ) → i < n → GoodBlock m (handlerPart m (now (words .entry)) i)) r ⌝ }
+{
+    let first = 2 + m * (m + 1);
+    let long = 3 + 3 * m;
+    let mut faults = 0u64;
+    for i in 0..n {
+        let a = first + i * long;
+        let e = a + long;
+        faults = faults + block_faults(&words[a..e], m);
+    }
+    faults
+}
+
+// Whether m is 1 to 32 and n is 1 to 16.
+pub fn in_range(m: u32, n: u32) -> bool
+    ensures { λ r. ⌜ r ≡ inRange m n ⌝ }
+{
+    if m < 1 {
+        return false;
+    }
+    if m > 32 {
+        return false;
+    }
+    if n < 1 {
+        return false;
+    }
+    n <= 16
+}
+
+// The words of a register.
+pub fn words_for(m: usize, n: usize) -> usize
+    requires { ⌜ (m ≤ 32) × (n ≤ 16) ⌝ }
+    ensures { λ r. ⌜ r ≡ size m n ⌝ }
+{
+    2 + m * (m + 1) + n * (3 + 3 * m)
+}
+
+// Whether the words are a well-formed register.
+pub fn well_formed(words: &[u32]) -> bool
+    ensures { λ r. ⌜ r ≡ isWellFormed (now (words .entry)) ⌝ }
+{
+    if words.len() < 2 {
+        return false;
+    }
+    let first = words[0];
+    let second = words[1];
+    if !in_range(first, second) {
+        return false;
+    }
+    let m = first as usize;
+    let n = second as usize;
+    let need = words_for(m, n);
+    if words.len() < need {
+        return false;
+    }
+    let cells = cells_faults(words, m);
+    let blocks = blocks_faults(words, m, n);
+    cells + blocks == 0
+}

@@ -1,0 +1,2 @@
+-- Laws of rows that change.
+pub mod Changes

@@ -1,0 +1,37 @@
+-- `words::copy_in` meets its contract: the words passed are those of the row.
+use Prim.Native.Nat.{_≤_, _-_}
+use mathlib.Core.Path.{refl}
+use native.Mathlib.Omega.{arith}
+use lib.ListN.{getD}
+use Rattle.words.specs.Rows.{Changed}
+use Rattle.words.proofs.Changes.{changed-none, changed-more, changed-all}
+use Rattle.words.proofs.copy_in.Statement.{statement}
+use Rattle.words.proofs.copy_in.Tie as tie
+
+abbrev Inv-loop : tie.InvT-loop
+Inv-loop words₀ to count row y₀ words y = (y ≤ count) × Changed to y (λ j. getD row j 0) words₀ words
+
+abbrev μ-loop : tie.MeasureT-loop
+μ-loop words₀ to count row y₀ words y = count - y
+
+pub copy-in-spec : {M : Type 1} → statement M
+copy-in-spec =
+    tie.close
+    (tie.spec
+    Inv-loop
+    μ-loop
+    -- before the first turn
+    (λ c. (omega arith, changed-none _ _ _ (omega arith)))
+    -- the two indices
+    (λ c. omega arith)
+    (λ c. omega arith)
+    (λ c. omega arith)
+    (λ c. omega arith)
+    (λ c. omega arith)
+    (λ c. omega arith)
+    (λ c. omega arith)
+    -- one more turn
+    (λ c. (omega arith, changed-more _ _ _ _ _ _ (c .before .before .loop .inv .1) (omega arith) refl))
+    -- at the end
+    (λ c. c .before .loop .inv .1 .untouched .size)
+    (λ c. changed-all _ _ _ (c .before .loop .inv .1) (omega arith) (omega arith)))

@@ -1,0 +1,2 @@
+-- What the functions over rows of words do.
+pub mod Rows
