@@ -15,7 +15,6 @@ use Rattle.rules.specs.Replies.{Refusal, Reply, ready}
 use Rattle.rules.specs.Register.{fresh}
 use Rattle.rules.specs.Checks.{firstHit, inRange, openingChecks}
 use Rattle.rules.specs.Given.{Free}
-use Rattle.rules.specs.Figure.{Result, step}
 use Rattle.rules.proofs.Given.{none-holds, Verdict, verdict}
 use Rattle.rules.proofs.Turns.{refusedTurn, takenTurn, given-turn, free-turn}
 use Rattle.rules.proofs.Confined.{Confined, step-confined, fresh-confined}
@@ -27,17 +26,13 @@ use Rattle.layout.proofs.Holds.{pour-holds, pour-over-length}
 use Rattle.layout.proofs.ViewPour.{view-pour, view-confined}
 use Rattle.layout.proofs.Kept.{Keeps, fresh-well-formed, step-kept}
 use Rattle.promises.specs.Opening.{openingRefusal, openingReply, openingWords, OpeningPromise}
-use Rattle.promises.specs.Stepping.{askedOf, turnOf, stepWords, StepPromise}
+use Rattle.promises.specs.Stepping.{askedOf, resultOf, turnOf, stepWords, StepPromise}
 
 -- A step that is refused: the words are as they were.
 pub record Stopped (words : List ℕ) (handler code value : ℕ) (after : List ℕ) : Type 0 where
   pub refusal : Refusal
   pub turn : turnOf words handler code value ≡ refusedTurn (view (cellsOf words) (handlersOf words) words) refusal
   pub unchanged : after ≡ words
-
--- The rules' result of a step on the register that the words say.
-abbrev pub resultOf : List ℕ → ℕ → Step → ℕ → Result ℕ
-resultOf words handler s value = step (wordSetting (cellsOf words)) (view (cellsOf words) (handlersOf words) words) handler s value
 
 -- A step that is taken: the words were well formed, and the rules' register stands in front of them.
 pub record Taken (words : List ℕ) (handler code value : ℕ) (after : List ℕ) : Type 0 where

@@ -20,7 +20,8 @@ use Rattle.layout.proofs.Places.{handler-fits}
 use Rattle.layout.proofs.Blocks.{poured-handler}
 use Rattle.layout.proofs.OneHandler.{block-put}
 use Rattle.layout.proofs.Untouched.{Untouched, splice, splice-untouched}
-use Rattle.promises.proofs.Leaves.{Taken, resultOf}
+use Rattle.promises.specs.Stepping.{resultOf}
+use Rattle.promises.proofs.Leaves.{Taken}
 
 -- A register that is another but for handler i is that other with its handler i.
 one-handler-is : {W : Type 0} {r q : Register W} {i : ℕ} → OneHandler r i q → q ≡ withHandler r i (q .handlers i)

@@ -4,7 +4,9 @@ use mathlib.Core.Path.{_≡_}
 use mathlib.Core.List.{List}
 use Rattle.rules.specs.Replies.{Reply, reported}
 use Rattle.rules.specs.Register.{Register}
+use Rattle.rules.specs.Codes.{Step}
 use Rattle.rules.specs.Checks.{Asked}
+use Rattle.rules.specs.Figure.{Result, step}
 use Rattle.rules.specs.Turn.{Turn, asked, turn}
 use Rattle.layout.specs.Places.{cellsOf, handlersOf}
 use Rattle.layout.specs.View.{wordSetting, view, holding}
@@ -16,6 +18,10 @@ askedOf words handler code =
     let m = cellsOf words in
     let n = handlersOf words in
     asked (wordSetting m) n (isWellFormed words) (view m n words) handler code
+
+-- The rules' result of a step on the register that the words say.
+abbrev pub resultOf : List ℕ → ℕ → Step → ℕ → Result ℕ
+resultOf words handler s value = step (wordSetting (cellsOf words)) (view (cellsOf words) (handlersOf words) words) handler s value
 
 -- The rules' turn on the register that the words say.
 unfoldable pub turnOf : List ℕ → ℕ → ℕ → ℕ → Turn ℕ

@@ -1,0 +1,1 @@
+-- Laws of the steps over a whole register.
