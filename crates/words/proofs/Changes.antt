@@ -1,11 +1,14 @@
 -- How rows change, one word after another: what a loop that stores has done so far, and that it is done.
-use Prim.Native.Nat.{ℕ, _+_, _≤_, _<_}
-use mathlib.Core.Path.{_≡_, refl, sym, ap, _∙_, subst}
+use Prim.Native.Nat.{ℕ, zero, suc, _+_, _≤_, _<_}
+use mathlib.Core.Path.{_≡_, refl, sym, ap, _∙_, subst, fun-ext}
 use mathlib.Core.List.{List}
 use native.Mathlib.Omega.{arith}
 use native.Mathlib.Nat.{zero-add}
 use borrow.Author.Count.{below-more}
-use lib.ListN.{length, getD, set, length-set}
+use borrow.Author.Tests.{ltb-true, ltb-false}
+use Rattle.rules.proofs.Tables.{by, SameFrom}
+use lib.Dec.{ltb}
+use lib.ListN.{length, getD, set, replicate, length-set}
 use lib.Seq.{getD-set-same, getD-set-other}
 use Rattle.words.specs.Rows.{Changed, RowOf}
 
@@ -41,12 +44,25 @@ module _ (from : ℕ) (table : ℕ → ℕ) (words : List ℕ) where
   changed-all {count} {all} {after} changed most least =
       subst (λ k. Changed from k table words after) (let same : count ≡ all = omega arith in same) changed
 
--- A changed row of 32 words from the first on is the row of the table.
-pub changed-row : {count : ℕ} {table : ℕ → ℕ} {words row : List ℕ} → Changed 0 count table words row → length words ≡ 32 → RowOf count table row
-changed-row {row = row} changed size = record {
-  size = changed .untouched .size ∙ size;
+-- A word of a row of zeros.
+zeros-at : (long y : ℕ) → _≡_ {A = ℕ} (getD (replicate long 0) y 0) 0
+zeros-at zero y = refl
+zeros-at (suc long) zero = refl
+zeros-at (suc long) (suc y) = zeros-at long y
+
+-- A row of 32 zeros that was changed from the first on is the row of the table.
+pub changed-row : {count : ℕ} {table : ℕ → ℕ} {row : List ℕ} → Changed 0 count table (replicate 32 0) row → RowOf count table row
+changed-row {count = count} {row = row} changed = record {
+  size = changed .untouched .size;
   inside = λ y h. ap (λ k. getD row k 0) (sym (zero-add y)) ∙ changed .inside y h;
+  beyond = λ y h. changed .untouched .above y (omega arith) ∙ zeros-at 32 y;
 }
+
+-- A row stands for its table, if that is 0 from the count on.
+pub row-is : {count : ℕ} {table : ℕ → ℕ} {row : List ℕ} → RowOf count table row → SameFrom count 0 table → (λ y. getD row y 0) ≡ table
+row-is {count} of beyond = fun-ext (λ y. by (ltb y count)
+    (λ e. of .inside y (ltb-true y count e))
+    (λ e. of .beyond y (ltb-false y count e) ∙ sym (beyond y (ltb-false y count e))))
 
 -- One more word from the first on is changed.
 pub changed-first : (count : ℕ) (table : ℕ → ℕ) (words after : List ℕ) (v : ℕ) → Changed 0 count table words after → count < length words

@@ -1,5 +1,5 @@
 -- What the functions over rows of words do: some words become those of a table, or a row is one of a table.
-use Prim.Native.Nat.{ℕ, _+_, _<_}
+use Prim.Native.Nat.{ℕ, _+_, _≤_, _<_}
 use mathlib.Core.Path.{_≡_}
 use mathlib.Core.List.{List}
 use lib.ListN.{length, getD}
@@ -10,7 +10,8 @@ pub record Changed (from count : ℕ) (table : ℕ → ℕ) (words after : List 
   pub untouched : Untouched from count words after
   pub inside : (y : ℕ) → y < count → getD after (from + y) 0 ≡ table y
 
--- The first so many of 32 words are those of the table.
+-- The first so many of 32 words are those of the table, and the others are 0.
 pub record RowOf (count : ℕ) (table : ℕ → ℕ) (row : List ℕ) : Type 0 where
   pub size : length row ≡ 32
   pub inside : (y : ℕ) → y < count → getD row y 0 ≡ table y
+  pub beyond : (y : ℕ) → count ≤ y → getD row y 0 ≡ 0

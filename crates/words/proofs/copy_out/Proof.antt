@@ -33,4 +33,4 @@ copy-out-spec =
     -- one more turn
     (λ c. (omega arith, changed-first _ _ _ _ _ (c .before .before .loop .inv .1) (omega arith) refl))
     -- at the end
-    (λ c. changed-row (changed-all _ _ _ (c .before .loop .inv .1) (omega arith) (omega arith)) refl))
+    (λ c. changed-row (changed-all _ _ _ (c .before .loop .inv .1) (omega arith) (omega arith))))
