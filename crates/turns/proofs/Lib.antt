@@ -1,1 +1,6 @@
 -- Laws of the steps over a whole register.
+pub mod Lent
+pub mod Said
+pub mod Reading
+pub mod Storing
+pub mod Trying

@@ -1,0 +1,87 @@
+-- A handler's block as it is lent and comes back: the lent part is the block of the register that the words say, and with the
+-- block of another handler put back the words hold the register with that handler.
+use Prim.Native.Nat.{ℕ, _+_, _-_, _≤_, _<_}
+use mathlib.Core.Path.{_≡_, refl, sym, ap, ap₂, _∙_, subst}
+use mathlib.Core.List.{List, _++_}
+use native.Mathlib.Omega.{arith}
+use lib.ListN.{length, take, drop}
+use borrow.Rule.Slice.PartMut.{putMid, post-is}
+use Rattle.rules.specs.Register.{Handler, Register, withHandler}
+use Rattle.layout.specs.Rows.{part}
+use Rattle.layout.specs.Places.{cellsOf, handlersOf, size, handlerStart, handlerLong, handlerPart}
+use Rattle.layout.specs.View.{viewHandler, view, pourHandler, holding}
+use Rattle.layout.specs.WellFormed.{WellFormed, GoodBlock}
+use Rattle.layout.proofs.Places.{handler-fits}
+use Rattle.layout.proofs.PourView.{well-holds, handler-part-length}
+use Rattle.layout.proofs.ViewPour.{view-handler}
+use Rattle.layout.proofs.Holds.{Holds, holds-is}
+use Rattle.layout.proofs.OneHandler.{block-put}
+use Rattle.layout.proofs.Untouched.{splice}
+use Rattle.block.specs.Blocks.{Block}
+use Rattle.turns.specs.Spans.{Spans}
+use Rattle.turns.specs.Takes.{viewed, Seated}
+
+module _ {first long from to : ℕ} (span : Spans first long from to) (words : List ℕ) where
+  -- What is lent is the part.
+  pub lent-part : take (to - from) (drop from words) ≡ part first long words
+  lent-part =
+      ap₂ (λ (a e : ℕ). take (e - a) (drop a words)) (span .starts) (span .ends)
+      ∙ ap (λ (k : ℕ). take k (drop first words)) (let count : first + long - first ≡ long = omega arith in count)
+
+  -- What comes back is put in for the part.
+  pub lent-back : (new : List ℕ) → putMid from (to - from) words new ≡ splice first long new words
+  lent-back new =
+      ap₂ (λ (a e : ℕ). putMid a (e - a) words new) (span .starts) (span .ends)
+      ∙ ap (λ (rest : List ℕ). take first words ++ (new ++ rest)) (post-is first (first + long) words (omega arith))
+
+module _ {words : List ℕ} {m i : ℕ} (seated : Seated words m i) where
+  -- The words hold the register that they say.
+  pub seated-holds : Holds m (handlersOf words) (view m (handlersOf words) words) (drop (size m (handlersOf words)) words) words
+  seated-holds =
+      subst (λ k. Holds k (handlersOf words) (view k (handlersOf words) words) (drop (size k (handlersOf words)) words) words)
+      (sym (seated .cells)) (well-holds words (seated .wellFormed))
+
+  -- There are at most 32 cells.
+  pub seated-cells : m ≤ 32
+  seated-cells = rw (seated .cells) (seated .wellFormed .range .cells)
+
+  -- There are at most 16 handlers.
+  pub seated-handler : i < 16
+  seated-handler = omega (arith, seated .handler, seated .wellFormed .range .handlers)
+
+  module _ {from to : ℕ} (span : Spans (handlerStart m i) (handlerLong m) from to) where
+    -- The block lies in the words.
+    pub block-fits : (from ≤ to) × (to ≤ length words)
+    block-fits = (omega (arith, span .starts, span .ends), omega (arith, span .ends, handler-fits m (handlersOf words) i (seated .handler), seated-holds .fits))
+
+    -- What is lent is the words of a block.
+    pub block-words : Block m (take (to - from) (drop from words))
+    block-words = record {
+      size = ap length (lent-part span words) ∙ handler-part-length m (handlersOf words) words (seated-holds .fits) i (seated .handler);
+      cells = seated-cells;
+    }
+
+    -- What is lent is a good block.
+    pub block-good : GoodBlock m (take (to - from) (drop from words))
+    block-good = subst (GoodBlock m) (sym (lent-part span words)) good
+      where
+        good : GoodBlock m (handlerPart m words i)
+        good = subst (λ k. GoodBlock k (handlerPart k words i)) (sym (seated .cells)) (seated .wellFormed .blocks i (seated .handler))
+
+    -- What is lent says the handler.
+    pub block-says : viewHandler m (take (to - from) (drop from words)) ≡ view m (handlersOf words) words .handlers i
+    block-says = ap (viewHandler m) (lent-part span words) ∙ sym (view-handler m (handlersOf words) words i (seated .handler))
+
+    -- With the block of a handler made of the lent one put back, the words hold the register with that handler.
+    pub block-back : (made : ℕ → Handler ℕ → Handler ℕ) (new : List ℕ)
+        → new ≡ pourHandler m (made m (viewHandler m (take (to - from) (drop from words))))
+        → putMid from (to - from) words new
+        ≡ holding words (cellsOf words) (handlersOf words) (withHandler (viewed words) i (made (cellsOf words) (viewed words .handlers i)))
+    block-back made new e =
+        ap (putMid from (to - from) words) (e ∙ ap (λ h. pourHandler m (made m h)) block-says)
+        ∙ lent-back span words _ ∙ holds-is (block-put seated-holds i _ (seated .handler)) ∙ ap held (seated .cells)
+      where
+        held : ℕ → List ℕ
+        held k =
+            let r = view k (handlersOf words) words in
+            holding words k (handlersOf words) (withHandler r i (made k (r .handlers i)))

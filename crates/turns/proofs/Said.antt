@@ -1,0 +1,91 @@
+-- What single words of a register say: a handler's phase, whether a cell is in a set, a local copy, and a cell with its numbers.
+use Prim.Native.Nat.{ℕ, _+_, _*_, _≤_, _<_}
+use mathlib.Core.Path.{_≡_, refl, sym, ap, _∙_, subst}
+use mathlib.Core.Bool.{false}
+use mathlib.Core.List.{List}
+use native.Mathlib.Omega.{arith}
+use lib.Dec.{eqb}
+use lib.ListN.{length, getD}
+use Rattle.rules.specs.Register.{Cell}
+use Rattle.layout.specs.Bits.{hasBit}
+use Rattle.layout.specs.Rows.{below}
+use Rattle.layout.specs.Places.{cellsOf, handlersOf, cellStart, handlerStart, cellLong, handlerLong, cellPart, handlerPart, numberIn, copyIn}
+use Rattle.layout.specs.View.{view, viewCell, viewHandler}
+use Rattle.layout.proofs.Rows.{part-at, below-inside, below-beyond}
+use Rattle.layout.proofs.ViewPour.{view-cell, view-handler}
+use Rattle.words.specs.Rows.{RowOf}
+use Rattle.words.proofs.Changes.{row-is}
+use Rattle.block.specs.Blocks.{rowCell}
+use Rattle.turns.specs.Takes.{viewed, Seated}
+
+module _ {words : List ℕ} {m i : ℕ} (seated : Seated words m i) where
+  -- The handler that the words say, by the number of cells that is known.
+  says : view m (handlersOf words) words .handlers i ≡ viewed words .handlers i
+  says = ap (λ k. view k (handlersOf words) words .handlers i) (seated .cells)
+
+  -- A word of the handler's block, by its place in the words.
+  block-word : (start k : ℕ) → start ≡ handlerStart m i → k < handlerLong m → getD (handlerPart m words i) k 0 ≡ getD words (start + k) 0
+  block-word start k e inside = part-at (handlerStart m i) (handlerLong m) words k inside ∙ ap (λ a. getD words (a + k) 0) (sym e)
+
+  module _ {start : ℕ} (starts : start ≡ handlerStart m i) where
+    -- The handler's block says the handler.
+    said : viewHandler m (handlerPart m words i) ≡ viewed words .handlers i
+    said = sym (view-handler m (handlersOf words) words i (seated .handler)) ∙ says
+
+    -- The first word says whether the transaction is open.
+    pub phase-said : eqb (getD words start 0) 1 ≡ viewed words .handlers i .opened
+    unfolding viewHandler
+    phase-said =
+        ap (λ place. eqb (getD words place 0) 1) (let first : start ≡ start + 0 = omega arith in first)
+        ∙ ap (λ word. eqb word 1) (sym (block-word start 0 starts (omega arith))) ∙ ap (λ h. h .opened) said
+
+    module _ (x : ℕ) (inside : x < m) where
+      -- The second word says whether a cell is in the read set.
+      pub read-said : hasBit (getD words (start + 1) 0) x ≡ viewed words .handlers i .readSet x
+      unfolding viewHandler
+      read-said =
+          ap (λ word. hasBit word x) (sym (block-word start 1 starts (omega arith)))
+          ∙ sym (below-inside m false _ x inside) ∙ ap (λ h. h .readSet x) said
+
+      -- The third word says whether a cell is in the written set.
+      pub written-said : hasBit (getD words (start + 2) 0) x ≡ viewed words .handlers i .writtenSet x
+      unfolding viewHandler
+      written-said =
+          ap (λ word. hasBit word x) (sym (block-word start 2 starts (omega arith)))
+          ∙ sym (below-inside m false _ x inside) ∙ ap (λ h. h .writtenSet x) said
+
+      -- The words behind the two vectors are the copies.
+      pub copy-said : getD words (start + 3 + 2 * m + x) 0 ≡ viewed words .handlers i .copies x
+      unfolding viewHandler
+      copy-said =
+          ap (λ place. getD words place 0) (let place : start + 3 + 2 * m + x ≡ start + (3 + 2 * m + x) = omega arith in place)
+          ∙ sym (block-word start (3 + 2 * m + x) starts (omega arith))
+          ∙ sym (below-inside m 0 (copyIn m (handlerPart m words i)) x inside) ∙ ap (λ h. h .copies x) said
+
+-- A cell's first word and the row copied from behind it are the cell.
+pub cell-said : (words : List ℕ) {m x start : ℕ} {row : List ℕ} → m ≡ cellsOf words → x < m → start ≡ cellStart m x
+    → RowOf m (λ y. getD words (start + 1 + y) 0) row → rowCell (getD words start 0) row ≡ viewed words .cells x
+unfolding viewCell
+cell-said words {m} {x} {start} {row} cells inside starts of =
+    (λ d. record { value = value d; numbers = numbers d })
+    ∙ sym (view-cell m (handlersOf words) words x inside) ∙ ap (λ k. view k (handlersOf words) words .cells x) cells
+  where
+    cell : List ℕ
+    cell = cellPart m words x
+
+    at : (k : ℕ) → k < cellLong m → getD words (start + k) 0 ≡ getD cell k 0
+    at k h = ap (λ a. getD words (a + k) 0) starts ∙ sym (part-at (cellStart m x) (cellLong m) words k h)
+
+    value : getD words start 0 ≡ getD cell 0 0
+    value = ap (λ place. getD words place 0) (let first : start ≡ start + 0 = omega arith in first) ∙ at 0 (omega arith)
+
+    number : (y : ℕ) → y < m → getD words (start + 1 + y) 0 ≡ below m 0 (numberIn cell) y
+    number y h =
+        ap (λ place. getD words place 0) (let place : start + 1 + y ≡ start + (1 + y) = omega arith in place)
+        ∙ at (1 + y) (omega arith) ∙ sym (below-inside m 0 (numberIn cell) y h)
+
+    copied : RowOf m (below m 0 (numberIn cell)) row
+    copied = record { size = of .size; inside = λ y h. of .inside y h ∙ number y h; beyond = of .beyond }
+
+    numbers : (λ y. getD row y 0) ≡ below m 0 (numberIn cell)
+    numbers = row-is copied (below-beyond m 0 (numberIn cell))
