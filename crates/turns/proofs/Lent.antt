@@ -1,16 +1,16 @@
 -- A handler's block as it is lent and comes back: the lent part is the block of the register that the words say, and with the
 -- block of another handler put back the words hold the register with that handler.
 use Prim.Native.Nat.{ℕ, _+_, _-_, _≤_, _<_}
-use mathlib.Core.Path.{_≡_, refl, sym, ap, ap₂, _∙_, subst}
+use mathlib.Core.Path.{_≡_, sym, ap, ap₂, _∙_, subst}
 use mathlib.Core.List.{List, _++_}
 use native.Mathlib.Omega.{arith}
 use lib.ListN.{length, take, drop}
 use borrow.Rule.Slice.PartMut.{putMid, post-is}
-use Rattle.rules.specs.Register.{Handler, Register, withHandler}
+use Rattle.rules.specs.Register.{Handler, withHandler}
 use Rattle.layout.specs.Rows.{part}
 use Rattle.layout.specs.Places.{cellsOf, handlersOf, size, handlerStart, handlerLong, handlerPart}
 use Rattle.layout.specs.View.{viewHandler, view, pourHandler, holding}
-use Rattle.layout.specs.WellFormed.{WellFormed, GoodBlock}
+use Rattle.layout.specs.WellFormed.{GoodBlock}
 use Rattle.layout.proofs.Places.{handler-fits}
 use Rattle.layout.proofs.PourView.{well-holds, handler-part-length}
 use Rattle.layout.proofs.ViewPour.{view-handler}
@@ -79,8 +79,11 @@ module _ {words : List ℕ} {m i : ℕ} (seated : Seated words m i) where
         ≡ holding words (cellsOf words) (handlersOf words) (withHandler (viewed words) i (made (cellsOf words) (viewed words .handlers i)))
     block-back made new e =
         ap (putMid from (to - from) words) (e ∙ ap (λ h. pourHandler m (made m h)) block-says)
-        ∙ lent-back span words _ ∙ holds-is (block-put seated-holds i _ (seated .handler)) ∙ ap held (seated .cells)
+        ∙ lent-back span words (pourHandler m handler) ∙ holds-is (block-put seated-holds i handler (seated .handler)) ∙ ap held (seated .cells)
       where
+        handler : Handler ℕ
+        handler = made m (view m (handlersOf words) words .handlers i)
+
         held : ℕ → List ℕ
         held k =
             let r = view k (handlersOf words) words in

@@ -1,20 +1,17 @@
 -- A read by the rules: the local copy and nothing changed, or the first read with its outcome and its handler.
 use Prim.Native.Nat.{ℕ}
-use mathlib.Core.Path.{_≡_, refl, sym, ap, _∙_}
-use mathlib.Core.Bool.{true, false, _||_, or-true}
+use mathlib.Core.Path.{_≡_, sym, ap, _∙_}
+use mathlib.Core.Bool.{true, false, _||_}
 use mathlib.Core.List.{List}
-use Rattle.rules.specs.Tables.{if_then_else_}
 use Rattle.rules.specs.Codes.{read}
 use Rattle.rules.specs.Replies.{value}
 use Rattle.rules.specs.Register.{Register, withHandler}
 use Rattle.rules.specs.Checks.{firstHit}
-use Rattle.rules.specs.Figure.{Result, joined, shown, isTorn, aborting, unlessAborted, readChecks, firstRead, reading, step}
+use Rattle.rules.specs.Figure.{joined, shown, isTorn, aborting, unlessAborted, readChecks, firstRead, reading, step}
 use Rattle.rules.proofs.Tables.{by}
-use Rattle.layout.specs.Places.{cellsOf, handlersOf}
-use Rattle.layout.specs.View.{wordSetting, holding}
+use Rattle.layout.specs.View.{wordSetting}
 use Rattle.layout.specs.WellFormed.{WellFormed}
 use Rattle.layout.proofs.PourView.{pour-view}
-use Rattle.promises.specs.Stepping.{resultOf}
 use Rattle.block.specs.Blocks.{readHandler, readOutcome}
 use Rattle.turns.specs.Takes.{viewed, Takes}
 

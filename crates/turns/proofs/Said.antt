@@ -1,12 +1,11 @@
 -- What single words of a register say: a handler's phase, whether a cell is in a set, a local copy, and a cell with its numbers.
-use Prim.Native.Nat.{ℕ, _+_, _*_, _≤_, _<_}
-use mathlib.Core.Path.{_≡_, refl, sym, ap, _∙_, subst}
+use Prim.Native.Nat.{ℕ, _+_, _*_, _<_}
+use mathlib.Core.Path.{_≡_, sym, ap, _∙_}
 use mathlib.Core.Bool.{false}
 use mathlib.Core.List.{List}
 use native.Mathlib.Omega.{arith}
 use lib.Dec.{eqb}
-use lib.ListN.{length, getD}
-use Rattle.rules.specs.Register.{Cell}
+use lib.ListN.{getD}
 use Rattle.layout.specs.Bits.{hasBit}
 use Rattle.layout.specs.Rows.{below}
 use Rattle.layout.specs.Places.{cellsOf, handlersOf, cellStart, handlerStart, cellLong, handlerLong, cellPart, handlerPart, numberIn, copyIn}

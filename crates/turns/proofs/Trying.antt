@@ -1,26 +1,24 @@
 -- A try by the rules, as each of its ways leaves the register; and the rows that a try works with are the register's own.
-use Prim.Native.Nat.{ℕ, _≤_, _<_}
-use mathlib.Core.Path.{_≡_, refl, sym, ap, _∙_, fun-ext}
-use mathlib.Core.Bool.{Bool, true, false, _&&_}
+use Prim.Native.Nat.{ℕ, _<_}
+use mathlib.Core.Path.{_≡_, sym}
+use mathlib.Core.Bool.{true, false, _&&_}
 use mathlib.Core.List.{List}
 use lib.Dec.{ltb}
-use lib.ListN.{getD}
 use borrow.Author.Tests.{ltb-true, ltb-false}
-use Rattle.rules.specs.Tables.{if_then_else_}
 use Rattle.rules.specs.Codes.{try}
 use Rattle.rules.specs.Replies.{Reason, overtaken, spent, committed, aborted}
-use Rattle.rules.specs.Register.{Handler, Register, withHandler, idle, blank}
+use Rattle.rules.specs.Register.{Register, withHandler, idle}
 use Rattle.rules.specs.Checks.{firstHit}
 use Rattle.rules.specs.Figure.{Result, stamped, isOvertaken, isSpent, aborting, committing, unlessAborted, tryChecks, trying, step}
-use Rattle.rules.proofs.Tables.{by, SameFrom}
-use Rattle.rules.proofs.Confined.{Confined, ConfinedHandler}
+use Rattle.rules.proofs.Tables.{by}
+use Rattle.rules.proofs.Confined.{Confined}
 use Rattle.layout.specs.Bits.{hasBit}
 use Rattle.layout.specs.Places.{cellsOf, handlersOf}
-use Rattle.layout.specs.View.{wordSetting, view}
+use Rattle.layout.specs.View.{wordSetting}
 use Rattle.layout.proofs.ViewPour.{view-confined}
 use Rattle.words.specs.Rows.{RowOf}
 use Rattle.words.proofs.Changes.{row-is}
-use Rattle.block.specs.Blocks.{rowTable, overtakenBy, spentBy, stampedBy}
+use Rattle.block.specs.Blocks.{rowTable}
 use Rattle.turns.specs.Takes.{viewed}
 use Rattle.turns.specs.Stores.{ownNumbers}
 
@@ -59,9 +57,9 @@ module _ (words : List ℕ) where
   own-is of = row-is of (λ c h. confined .cell c c h)
 
   -- A cell beyond is not written.
-  pub written-is : (i : ℕ) {written : ℕ} → ((c : ℕ) → c < cellsOf words → hasBit written c ≡ viewed words .handlers i .writtenSet c)
+  pub written-is : (i written : ℕ) → ((c : ℕ) → c < cellsOf words → hasBit written c ≡ viewed words .handlers i .writtenSet c)
       → (c : ℕ) → ltb c (cellsOf words) && hasBit written c ≡ viewed words .handlers i .writtenSet c
-  written-is i said c = by (ltb c (cellsOf words))
+  written-is i written said c = by (ltb c (cellsOf words))
       (λ e. rw e (said c (ltb-true c (cellsOf words) e)))
       (λ e. rw e (sym (confined .handler i .writtenSet c (ltb-false c (cellsOf words) e))))
 

@@ -3,7 +3,7 @@ use Prim.Native.Nat.{ℕ, _<_}
 use mathlib.Core.Path.{_≡_}
 use mathlib.Core.Bool.{false}
 use mathlib.Core.List.{List}
-use Rattle.rules.specs.Codes.{Step, read, try}
+use Rattle.rules.specs.Codes.{Step, read}
 use Rattle.rules.specs.Replies.{Outcome}
 use Rattle.rules.specs.Given.{Within, phaseFor}
 use Rattle.rules.specs.Register.{Register}

@@ -1,0 +1,3 @@
+-- Laws of the register.
+pub mod Opening
+pub mod Stepping
