@@ -1,0 +1,2 @@
+-- The promises of the exported functions, said of numbers.
+pub mod Packed
