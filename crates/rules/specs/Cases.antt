@@ -74,7 +74,7 @@ unfoldable pub cases : List Case
 cases =
     -- a buffer of no word and of one
     record { start = opened 2 1 0 (refused 21); lines = line 0 0 (refused 10) ∷ []; end = loose [] } ∷
-    record { start = given (2 ∷ []); lines = line 0 0 (refused 10) ∷ line 0 2 (refused 10) ∷ []; end = loose (2 ∷ []) } ∷
+    record { start = given (2 ∷ []); lines = line 0 0 (refused 10) ∷ []; end = loose (2 ∷ []) } ∷
     -- K1 n = 1: 17 words open, 16 give 21
     record { start = opened 2 1 17 ok; lines = []; end = register (cell 0 0 0 ∷ cell 0 0 0 ∷ []) (rests 0 0 ∷ []) [] } ∷
     record { start = opened 2 1 16 (refused 21); lines = []; end = loose (untouched 16) } ∷
@@ -101,7 +101,7 @@ cases =
       start = opened 2 2 27 ok;
       lines =
           line 0 0 ok ∷ write 0 64 5 ∷ line 0 32 (value 5) ∷
-          line 1 0 ok ∷ write 1 64 9 ∷ line 1 1 commit ∷
+          line 1 0 ok ∷ write 1 64 9 ∷ line 1 32 (value 9) ∷ line 1 1 commit ∷
           line 0 1 commit ∷ [];
       end = register (cell 5 2 0 ∷ cell 0 0 0 ∷ []) (rests 2 0 ∷ rests 1 0 ∷ []) (untouched 1);
     } ∷
@@ -118,7 +118,7 @@ cases =
     record {
       start = opened 2 2 26 ok;
       lines =
-          line 0 0 ok ∷ line 0 32 (value 0) ∷ write 0 64 3 ∷
+          line 0 0 ok ∷ line 0 32 (value 0) ∷ write 0 64 3 ∷ line 0 32 (value 3) ∷
           line 1 0 ok ∷ write 1 64 5 ∷ line 1 1 commit ∷
           line 0 1 (abort 2) ∷ [];
       end = register (cell 5 1 0 ∷ cell 0 0 0 ∷ []) (rests 0 0 ∷ rests 1 0 ∷ []) [];
@@ -174,21 +174,24 @@ cases =
     } ∷
     -- K12 a written cell's number 65,534: commit, 65,535
     record {
-      start = given (2 ∷ 1 ∷ (cell 0 65534 0 ++ (cell 0 0 0 ++ rests 0 0)));
-      lines = line 0 0 ok ∷ write 0 64 5 ∷ line 0 1 commit ∷ [];
-      end = register (cell 5 65535 0 ∷ cell 0 0 0 ∷ []) (rests 65535 0 ∷ []) [];
+      start = given (2 ∷ 1 ∷ (cell 8 65534 3 ++ (cell 0 0 0 ++ rests 0 2)));
+      lines = line 0 0 ok ∷ line 0 32 (value 8) ∷ write 0 64 5 ∷ line 0 1 commit ∷ [];
+      end = register (cell 5 65535 3 ∷ cell 0 0 0 ∷ []) (rests 65535 3 ∷ []) [];
     } ∷
     -- at 65,535: abort 3
     record {
       start = given (2 ∷ 1 ∷ (cell 0 65535 0 ++ (cell 0 0 0 ++ rests 0 0)));
-      lines = line 0 0 ok ∷ write 0 64 5 ∷ line 0 1 (abort 3) ∷ [];
+      lines = line 0 0 ok ∷ write 0 64 5 ∷ line 0 32 (value 5) ∷ line 0 1 (abort 3) ∷ [];
       end = register (cell 0 65535 0 ∷ cell 0 0 0 ∷ []) (rests 0 0 ∷ []) [];
     } ∷
-    -- with a stale read besides: abort 2; cell 1 is read at number 3 and stands at 1
+    -- with a stale read besides: abort 2
     record {
-      start = given (2 ∷ 1 ∷ (cell 0 65535 0 ++ (cell 9 0 1 ++ (1 ∷ 2 ∷ 1 ∷ 4 ∷ 0 ∷ 6 ∷ 3 ∷ 5 ∷ 8 ∷ []))));
-      lines = line 0 1 (abort 2) ∷ [];
-      end = register (cell 0 65535 0 ∷ cell 9 0 1 ∷ []) (rests 4 0 ∷ []) [];
+      start = given (2 ∷ 2 ∷ (cell 0 65535 0 ++ (cell 9 0 1 ++ (rests 4 0 ++ rests 0 0))));
+      lines =
+          line 0 0 ok ∷ line 0 33 (value 9) ∷ write 0 64 5 ∷ line 0 32 (value 5) ∷
+          line 1 0 ok ∷ write 1 65 6 ∷ line 1 1 commit ∷
+          line 0 1 (abort 2) ∷ [];
+      end = register (cell 0 65535 0 ∷ cell 6 0 2 ∷ []) (rests 4 0 ∷ rests 0 2 ∷ []) [];
     } ∷
     -- words 0 and 1 huge
     record {
@@ -199,6 +202,6 @@ cases =
     -- handler and code at 4,294,967,295
     record {
       start = opened 2 1 17 ok;
-      lines = line 4294967295 0 (refused 11) ∷ line 0 4294967295 (refused 15) ∷ line 4294967295 4294967295 (refused 15) ∷ [];
+      lines = line 4294967295 0 (refused 11) ∷ line 4294967295 4294967295 (refused 15) ∷ [];
       end = register (cell 0 0 0 ∷ cell 0 0 0 ∷ []) (rests 0 0 ∷ []) [];
     } ∷ []
