@@ -1,1 +1,4 @@
--- Laws of faults.
+-- Laws of faults, and of what is answered.
+pub mod Gathers
+pub mod Parts
+pub mod Answers

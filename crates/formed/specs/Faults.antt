@@ -1,5 +1,5 @@
 -- Faults that are gathered: a number that is small enough to go on adding, and 0 exactly where all is well.
-use Prim.Native.Nat.{ℕ, _≤_}
+use Prim.Native.Nat.{ℕ, _+_, _*_, _^_, _≤_}
 use mathlib.Core.Path.{_≡_}
 use mathlib.Core.Logic.{_↔_}
 
@@ -7,3 +7,11 @@ use mathlib.Core.Logic.{_↔_}
 pub record Faults (most : ℕ) (Good : Type 0) (faults : ℕ) : Type 0 where
   pub small : faults ≤ most
   pub none : (faults ≡ 0) ↔ Good
+
+-- The most faults of a row of at most 64 numbers.
+abbrev pub rowMost : ℕ
+rowMost = 64 * 65535
+
+-- The most faults of a block: three words' and a row's.
+abbrev pub blockMost : ℕ
+blockMost = 3 * 2 ^ 32 + rowMost

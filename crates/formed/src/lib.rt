@@ -1,17 +1,17 @@
 // Whether words are a register. Faults are gathered over whole rows and looked at once, so that a row needs no early exit.
 // Internal: called by our crates alone, which show what each function requires.
 ghost use mathlib.Core.Path.{_≡_};
-ghost use Prim.Native.Nat.{ℕ, _+_, _*_, _≤_, _<_};
+ghost use Prim.Native.Nat.{ℕ, _*_, _≤_, _<_};
 ghost use lib.ListN.{length, getD};
 ghost use Rattle.rules.specs.Checks.{inRange};
 ghost use Rattle.layout.specs.Places.{size, handlerLong, cellPart, handlerPart, numberIn};
 ghost use Rattle.layout.specs.WellFormed.{GoodBlock, isWellFormed};
-ghost use Rattle.formed.specs.Faults.{Faults};
+ghost use Rattle.formed.specs.Faults.{Faults, rowMost, blockMost};
 
 // How far the numbers of a row lie above 65,535: 0 exactly where none does.
 fn row_faults(row: &[u32]) -> u32
     requires { ⌜ length (now row) ≤ 64 ⌝ }
-    ensures { λ r. ⌜ Faults (64 * 65535) ((y : ℕ) → y < length (now (row .entry)) → getD (now (row .entry)) y 0 ≤ 65535) r ⌝ }
+    ensures { λ r. ⌜ Faults rowMost ((y : ℕ) → y < length (now (row .entry)) → getD (now (row .entry)) y 0 ≤ 65535) r ⌝ }
 {
     let mut faults = 0u32;
     for y in 0..row.len() {
@@ -23,7 +23,7 @@ fn row_faults(row: &[u32]) -> u32
 // The faults of one handler's block: its phase, its two sets and its two vectors of numbers.
 fn block_faults(block: &[u32], m: usize) -> u64
     requires { ⌜ (length (now block) ≡ handlerLong m) × (m ≤ 32) ⌝ }
-    ensures { λ r. ⌜ Faults 20000000000 (GoodBlock m (now (block .entry))) r ⌝ }
+    ensures { λ r. ⌜ Faults blockMost (GoodBlock m (now (block .entry))) r ⌝ }
 {
     let phase = block[0] / 2;
     let read = (block[1] as u64) >> m;
@@ -36,7 +36,7 @@ fn block_faults(block: &[u32], m: usize) -> u64
 // The faults of all cells.
 fn cells_faults(words: &[u32], m: usize) -> u64
     requires { ⌜ (m ≤ 32) × (size m 0 ≤ length (now words)) ⌝ }
-    ensures { λ r. ⌜ Faults 1000000000 ((c : ℕ) → c < m → (y : ℕ) → y < m → numberIn (cellPart m (now (words .entry)) c) y ≤ 65535) r ⌝ }
+    ensures { λ r. ⌜ Faults (32 * rowMost) ((c : ℕ) → c < m → (y : ℕ) → y < m → numberIn (cellPart m (now (words .entry)) c) y ≤ 65535) r ⌝ }
 {
     let mut faults = 0u64;
     for c in 0..m {
@@ -51,7 +51,7 @@ fn cells_faults(words: &[u32], m: usize) -> u64
 // The faults of all handlers.
 fn blocks_faults(words: &[u32], m: usize, n: usize) -> u64
     requires { ⌜ (m ≤ 32) × (n ≤ 16) × (size m n ≤ length (now words)) ⌝ }
-    ensures { λ r. ⌜ Faults 400000000000 ((i : ℕ) → i < n → GoodBlock m (handlerPart m (now (words .entry)) i)) r ⌝ }
+    ensures { λ r. ⌜ Faults (16 * blockMost) ((i : ℕ) → i < n → GoodBlock m (handlerPart m (now (words .entry)) i)) r ⌝ }
 {
     let first = 2 + m * (m + 1);
     let long = 3 + 3 * m;

@@ -1,6 +1,6 @@
 -- A step by its ways: what the checks refuse is refused and changes nothing, and what they let through is taken.
 use Prim.Native.Nat.{ℕ}
-use mathlib.Core.Path.{_≡_, refl, ap, _∙_}
+use mathlib.Core.Path.{_≡_, ap, _∙_}
 use mathlib.Core.List.{List}
 use mathlib.Core.Option.{none, some}
 use Rattle.rules.specs.Codes.{Step, known, kindOf}
@@ -12,6 +12,7 @@ use Rattle.layout.specs.Places.{cellsOf}
 use Rattle.layout.specs.View.{wordSetting}
 use Rattle.layout.proofs.Tested.{tested}
 use Rattle.promises.specs.Stepping.{askedOf, turnOf, stepWords, StepPromise}
+use Rattle.turns.proofs.Lent.{seats}
 use Rattle.turns.specs.Takes.{viewed, Ready, Takes}
 
 module _ (words : List ℕ) (handler code value : ℕ) where
@@ -31,7 +32,7 @@ module _ (words : List ℕ) (handler code value : ℕ) where
         s,
         free .placed .heard .known,
         record {
-          seated = record { wellFormed = tested words .0 (free .placed .heard .wellFormed); cells = refl; handler = free .placed .heard .handler };
+          seated = seats (tested words .0 (free .placed .heard .wellFormed)) (free .placed .heard .handler);
           cell = free .placed .cell;
           phase = free .phase;
         },

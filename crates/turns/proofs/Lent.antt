@@ -1,7 +1,7 @@
 -- A handler's block as it is lent and comes back: the lent part is the block of the register that the words say, and with the
 -- block of another handler put back the words hold the register with that handler.
 use Prim.Native.Nat.{ℕ, _+_, _-_, _≤_, _<_}
-use mathlib.Core.Path.{_≡_, sym, ap, ap₂, _∙_, subst}
+use mathlib.Core.Path.{_≡_, refl, sym, ap, ap₂, _∙_, subst}
 use mathlib.Core.List.{List, _++_}
 use native.Mathlib.Omega.{arith}
 use lib.ListN.{length, take, drop}
@@ -10,7 +10,7 @@ use Rattle.rules.specs.Register.{Handler, withHandler}
 use Rattle.layout.specs.Rows.{part}
 use Rattle.layout.specs.Places.{cellsOf, handlersOf, size, handlerStart, handlerLong, handlerPart}
 use Rattle.layout.specs.View.{viewHandler, view, pourHandler, holding}
-use Rattle.layout.specs.WellFormed.{GoodBlock}
+use Rattle.layout.specs.WellFormed.{WellFormed, GoodBlock}
 use Rattle.layout.proofs.Places.{handler-fits}
 use Rattle.layout.proofs.PourView.{well-holds, handler-part-length}
 use Rattle.layout.proofs.ViewPour.{view-handler}
@@ -34,20 +34,20 @@ module _ {first long from to : ℕ} (span : Spans first long from to) (words : L
       ap₂ (λ (a e : ℕ). putMid a (e - a) words new) (span .starts) (span .ends)
       ∙ ap (λ (rest : List ℕ). take first words ++ (new ++ rest)) (post-is first (first + long) words (omega arith))
 
+-- Well-formed words have a handler.
+pub seats : {words : List ℕ} {i : ℕ} → WellFormed words → i < handlersOf words → Seated words (cellsOf words) i
+seats w inside = record {
+  formed = record { wellFormed = w; cells = refl; few = w .range .cells; fits = w .long };
+  handler = inside;
+  low = omega (arith, w .range .handlers);
+}
+
 module _ {words : List ℕ} {m i : ℕ} (seated : Seated words m i) where
   -- The words hold the register that they say.
   pub seated-holds : Holds m (handlersOf words) (view m (handlersOf words) words) (drop (size m (handlersOf words)) words) words
   seated-holds =
       subst (λ k. Holds k (handlersOf words) (view k (handlersOf words) words) (drop (size k (handlersOf words)) words) words)
-      (sym (seated .cells)) (well-holds words (seated .wellFormed))
-
-  -- There are at most 32 cells.
-  pub seated-cells : m ≤ 32
-  seated-cells = rw (seated .cells) (seated .wellFormed .range .cells)
-
-  -- There are at most 16 handlers.
-  pub seated-handler : i < 16
-  seated-handler = omega (arith, seated .handler, seated .wellFormed .range .handlers)
+      (sym (seated .formed .cells)) (well-holds words (seated .formed .wellFormed))
 
   module _ {from to : ℕ} (span : Spans (handlerStart m i) (handlerLong m) from to) where
     -- The block lies in the words.
@@ -58,7 +58,7 @@ module _ {words : List ℕ} {m i : ℕ} (seated : Seated words m i) where
     pub block-words : Block m (take (to - from) (drop from words))
     block-words = record {
       size = ap length (lent-part span words) ∙ handler-part-length m (handlersOf words) words (seated-holds .fits) i (seated .handler);
-      cells = seated-cells;
+      cells = seated .formed .few;
     }
 
     -- What is lent is a good block.
@@ -66,7 +66,7 @@ module _ {words : List ℕ} {m i : ℕ} (seated : Seated words m i) where
     block-good = subst (GoodBlock m) (sym (lent-part span words)) good
       where
         good : GoodBlock m (handlerPart m words i)
-        good = subst (λ k. GoodBlock k (handlerPart k words i)) (sym (seated .cells)) (seated .wellFormed .blocks i (seated .handler))
+        good = subst (λ k. GoodBlock k (handlerPart k words i)) (sym (seated .formed .cells)) (seated .formed .wellFormed .blocks i (seated .handler))
 
     -- What is lent says the handler.
     pub block-says : viewHandler m (take (to - from) (drop from words)) ≡ view m (handlersOf words) words .handlers i
@@ -79,7 +79,7 @@ module _ {words : List ℕ} {m i : ℕ} (seated : Seated words m i) where
         ≡ holding words (cellsOf words) (handlersOf words) (withHandler (viewed words) i (made (cellsOf words) (viewed words .handlers i)))
     block-back made new e =
         ap (putMid from (to - from) words) (e ∙ ap (λ h. pourHandler m (made m h)) block-says)
-        ∙ lent-back span words (pourHandler m handler) ∙ holds-is (block-put seated-holds i handler (seated .handler)) ∙ ap held (seated .cells)
+        ∙ lent-back span words (pourHandler m handler) ∙ holds-is (block-put seated-holds i handler (seated .handler)) ∙ ap held (seated .formed .cells)
       where
         handler : Handler ℕ
         handler = made m (view m (handlersOf words) words .handlers i)

@@ -20,7 +20,7 @@ use Rattle.turns.specs.Takes.{viewed, Seated}
 module _ {words : List ℕ} {m i : ℕ} (seated : Seated words m i) where
   -- The handler that the words say, by the number of cells that is known.
   says : view m (handlersOf words) words .handlers i ≡ viewed words .handlers i
-  says = ap (λ k. view k (handlersOf words) words .handlers i) (seated .cells)
+  says = ap (λ k. view k (handlersOf words) words .handlers i) (seated .formed .cells)
 
   -- A word of the handler's block, by its place in the words.
   block-word : (start k : ℕ) → start ≡ handlerStart m i → k < handlerLong m → getD (handlerPart m words i) k 0 ≡ getD words (start + k) 0
@@ -61,30 +61,36 @@ module _ {words : List ℕ} {m i : ℕ} (seated : Seated words m i) where
           ∙ sym (block-word start (3 + 2 * m + x) starts (omega arith))
           ∙ sym (below-inside m 0 (copyIn m (handlerPart m words i)) x inside) ∙ ap (λ h. h .copies x) said
 
--- A cell's first word and the row copied from behind it are the cell.
-pub cell-said : (words : List ℕ) {m x start : ℕ} {row : List ℕ} → m ≡ cellsOf words → x < m → start ≡ cellStart m x
-    → RowOf m (λ y. getD words (start + 1 + y) 0) row → rowCell (getD words start 0) row ≡ viewed words .cells x
-unfolding viewCell
-cell-said words {m} {x} {start} {row} cells inside starts of =
-    (λ d. record { value = value d; numbers = numbers d })
-    ∙ sym (view-cell m (handlersOf words) words x inside) ∙ ap (λ k. view k (handlersOf words) words .cells x) cells
-  where
-    cell : List ℕ
-    cell = cellPart m words x
+module _ (words : List ℕ) {m x start : ℕ} (cells : m ≡ cellsOf words) (inside : x < m) (starts : start ≡ cellStart m x) where
+  -- A word of the cell, by its place in the words.
+  cell-word : (k : ℕ) → k < cellLong m → getD words (start + k) 0 ≡ getD (cellPart m words x) k 0
+  cell-word k h = ap (λ a. getD words (a + k) 0) starts ∙ sym (part-at (cellStart m x) (cellLong m) words k h)
 
-    at : (k : ℕ) → k < cellLong m → getD words (start + k) 0 ≡ getD cell k 0
-    at k h = ap (λ a. getD words (a + k) 0) starts ∙ sym (part-at (cellStart m x) (cellLong m) words k h)
+  -- The cell that the words say, by the number of cells that is known.
+  cell-says : viewCell m (cellPart m words x) ≡ viewed words .cells x
+  cell-says = sym (view-cell m (handlersOf words) words x inside) ∙ ap (λ k. view k (handlersOf words) words .cells x) cells
 
-    value : getD words start 0 ≡ getD cell 0 0
-    value = ap (λ place. getD words place 0) (let first : start ≡ start + 0 = omega arith in first) ∙ at 0 (omega arith)
+  -- A number of the cell, cut at m.
+  number-word : (y : ℕ) → y < m → getD words (start + 1 + y) 0 ≡ below m 0 (numberIn (cellPart m words x)) y
+  number-word y h =
+      ap (λ place. getD words place 0) (let place : start + 1 + y ≡ start + (1 + y) = omega arith in place)
+      ∙ cell-word (1 + y) (omega arith) ∙ sym (below-inside m 0 (numberIn (cellPart m words x)) y h)
 
-    number : (y : ℕ) → y < m → getD words (start + 1 + y) 0 ≡ below m 0 (numberIn cell) y
-    number y h =
-        ap (λ place. getD words place 0) (let place : start + 1 + y ≡ start + (1 + y) = omega arith in place)
-        ∙ at (1 + y) (omega arith) ∙ sym (below-inside m 0 (numberIn cell) y h)
+  -- The words behind a cell's first are its numbers.
+  pub number-said : (y : ℕ) → y < m → getD words (start + 1 + y) 0 ≡ viewed words .cells x .numbers y
+  unfolding viewCell
+  number-said y h = number-word y h ∙ ap (λ cell. cell .numbers y) cell-says
 
-    copied : RowOf m (below m 0 (numberIn cell)) row
-    copied = record { size = of .size; inside = λ y h. of .inside y h ∙ number y h; beyond = of .beyond }
+  -- A cell's first word and the row copied from behind it are the cell.
+  pub cell-said : {row : List ℕ} → RowOf m (λ y. getD words (start + 1 + y) 0) row → rowCell (getD words start 0) row ≡ viewed words .cells x
+  unfolding viewCell
+  cell-said {row} of = (λ d. record { value = value d; numbers = numbers d }) ∙ cell-says
+    where
+      value : getD words start 0 ≡ getD (cellPart m words x) 0 0
+      value = ap (λ place. getD words place 0) (let first : start ≡ start + 0 = omega arith in first) ∙ cell-word 0 (omega arith)
 
-    numbers : (λ y. getD row y 0) ≡ below m 0 (numberIn cell)
-    numbers = row-is copied (below-beyond m 0 (numberIn cell))
+      copied : RowOf m (below m 0 (numberIn (cellPart m words x))) row
+      copied = record { size = of .size; inside = λ y h. of .inside y h ∙ number-word y h; beyond = of .beyond }
+
+      numbers : (λ y. getD row y 0) ≡ below m 0 (numberIn (cellPart m words x))
+      numbers = row-is copied (below-beyond m 0 (numberIn (cellPart m words x)))

@@ -1,5 +1,4 @@
 // A try: abort 2, abort 3, or commit. All numbers are raised before the first cell is stored.
-ghost use mathlib.Core.Path.{_≡_};
 ghost use Rattle.rules.specs.Codes as Codes;
 ghost use Rattle.replies.specs.Meaning.{outcomeOf};
 ghost use Rattle.turns.specs.Takes.{Ready, Takes, Commits};

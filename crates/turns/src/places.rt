@@ -1,5 +1,4 @@
 // Where a handler's block and a cell's words lie.
-ghost use mathlib.Core.Path.{_≡_};
 ghost use Prim.Native.Nat.{_≤_, _<_};
 ghost use Rattle.layout.specs.Places.{cellLong, handlerLong, cellStart, handlerStart};
 ghost use Rattle.turns.specs.Spans.{Spans};

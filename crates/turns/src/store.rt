@@ -4,18 +4,18 @@ ghost use Prim.Native.Nat.{_+_, _*_, _≤_, _<_};
 ghost use lib.ListN.{length};
 ghost use Rattle.rules.specs.Tables.{if_then_else_};
 ghost use Rattle.layout.specs.Bits.{hasBit};
-ghost use Rattle.layout.specs.Places.{cellLong, cellStart, cellsOf, handlersOf};
-ghost use Rattle.layout.specs.View.{pourCell, view};
-ghost use Rattle.layout.specs.WellFormed.{WellFormed};
+ghost use Rattle.layout.specs.Places.{cellLong, cellStart};
+ghost use Rattle.layout.specs.View.{pourCell};
 ghost use Rattle.layout.proofs.Untouched.{splice};
 ghost use Rattle.words.specs.Rows.{RowOf};
 ghost use Rattle.block.specs.Blocks.{rowCell, rowTable};
+ghost use Rattle.turns.specs.Takes.{Formed};
 ghost use Rattle.turns.specs.Stores.{ownNumbers, Stores};
 use crate::places::cell_at;
 
 // Each cell's own number.
 pub fn own_numbers(words: &[u32], m: usize) -> [u32; 32]
-    requires { ⌜ WellFormed (now words) × (m ≡ cellsOf (now words)) ⌝ }
+    requires { ⌜ Formed (now words) m ⌝ }
     ensures { λ r. ⌜ RowOf m (ownNumbers (now (words .entry))) r ⌝ }
 {
     let mut row = [0u32; 32];
