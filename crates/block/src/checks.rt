@@ -30,9 +30,7 @@ pub fn overtaken(block: &[u32], m: usize, own: &[u32; 32]) -> bool
     let read = block[1];
     let transaction = 3 + m;
     for y in 0..m {
-        let held = block[transaction + y];
-        let number = own[y];
-        if stale(read, y, held, number) {
+        if stale(read, y, block[transaction + y], own[y]) {
             return true;
         }
     }
@@ -58,8 +56,7 @@ pub fn spent(block: &[u32], m: usize, own: &[u32; 32]) -> bool
 {
     let written = block[2];
     for y in 0..m {
-        let number = own[y];
-        if full(written, y, number) {
+        if full(written, y, own[y]) {
             return true;
         }
     }
@@ -87,9 +84,7 @@ pub fn stamps(block: &[u32], m: usize, own: &[u32; 32]) -> [u32; 32]
     let transaction = 3 + m;
     let mut row = [0u32; 32];
     for y in 0..m {
-        let held = block[transaction + y];
-        let number = own[y];
-        row[y] = stamp(written, y, held, number);
+        row[y] = stamp(written, y, block[transaction + y], own[y]);
     }
     row
 }

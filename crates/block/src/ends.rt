@@ -48,10 +48,6 @@ pub fn settle(block: &mut [u32], m: usize, numbers: &[u32; 32])
     requires { ⌜ Block m (now block) ⌝ }
     ensures { λ _. ⌜ now (block .exit) ≡ pourHandler m (idle (wordSetting m) (rowTable (now (numbers .entry)))) ⌝ }
 {
-    block[0] = 0;
-    block[1] = 0;
-    block[2] = 0;
-    let transaction = 3 + m;
+    rest(block, m);
     words::copy_in(block, 3, m, numbers);
-    words::clear(block, transaction, 2 * m);
 }

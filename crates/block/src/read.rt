@@ -26,17 +26,15 @@ fn below(read: u32, y: usize, held: u32, number: u32) -> bool
     }
 }
 
-// Some cell of the read set has a transaction number below the cell's number for it.
-fn torn(block: &[u32], m: usize, value: u32, numbers: &[u32; 32]) -> bool
+// Some cell of the read set has a transaction number below the given cell's number for it, whatever that cell's value.
+fn torn(block: &[u32], m: usize, numbers: &[u32; 32]) -> bool
     requires { ⌜ Block m (now block) ⌝ }
-    ensures { λ r. ⌜ r ≡ isTorn (wordSetting m) (viewHandler m (now (block .entry))) (rowCell value (now (numbers .entry))) ⌝ }
+    ensures { λ r. ⌜ r ≡ isTorn (wordSetting m) (viewHandler m (now (block .entry))) (rowCell 0 (now (numbers .entry))) ⌝ }
 {
     let read = block[1];
     let transaction = 3 + m;
     for y in 0..m {
-        let held = block[transaction + y];
-        let number = numbers[y];
-        if below(read, y, held, number) {
+        if below(read, y, block[transaction + y], numbers[y]) {
             return true;
         }
     }
@@ -62,9 +60,7 @@ fn raise(block: &mut [u32], m: usize, numbers: &[u32; 32])
     let read = block[1];
     let transaction = 3 + m;
     for y in 0..m {
-        let held = block[transaction + y];
-        let number = numbers[y];
-        block[transaction + y] = raised(read, y, held, number);
+        block[transaction + y] = raised(read, y, block[transaction + y], numbers[y]);
     }
 }
 
@@ -78,7 +74,7 @@ pub fn first_read(block: &mut [u32], m: usize, x: usize, value: u32, numbers: &[
     let read = block[1];
     block[transaction + x] = numbers[x];
     block[1] = words::with_cell(read, x);
-    if torn(block, m, value, numbers) {
+    if torn(block, m, numbers) {
         rest(block, m);
         return Outcome::Aborted(Reason::Torn);
     }

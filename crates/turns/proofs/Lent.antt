@@ -11,8 +11,9 @@ use Rattle.layout.specs.Rows.{part}
 use Rattle.layout.specs.Places.{cellsOf, handlersOf, size, handlerStart, handlerLong, handlerPart}
 use Rattle.layout.specs.View.{viewHandler, view, pourHandler, holding}
 use Rattle.layout.specs.WellFormed.{WellFormed, GoodBlock}
+use Rattle.layout.proofs.Rows.{part-length}
 use Rattle.layout.proofs.Places.{handler-fits}
-use Rattle.layout.proofs.PourView.{well-holds, handler-part-length}
+use Rattle.layout.proofs.PourView.{well-holds}
 use Rattle.layout.proofs.ViewPour.{view-handler}
 use Rattle.layout.proofs.Holds.{Holds, holds-is}
 use Rattle.layout.proofs.OneHandler.{block-put}
@@ -28,10 +29,15 @@ module _ {first long from to : ℕ} (span : Spans first long from to) (words : L
       ap₂ (λ (a e : ℕ). take (e - a) (drop a words)) (span .starts) (span .ends)
       ∙ ap (λ (k : ℕ). take k (drop first words)) (let count : first + long - first ≡ long = omega arith in count)
 
+  -- What is lent is as long as the part.
+  pub lent-length : first + long ≤ length words → length (take (to - from) (drop from words)) ≡ long
+  lent-length fits = ap length lent-part ∙ part-length first long words fits
+
   -- What comes back is put in for the part.
-  pub lent-back : (new : List ℕ) → putMid from (to - from) words new ≡ splice first long new words
-  lent-back new =
-      ap₂ (λ (a e : ℕ). putMid a (e - a) words new) (span .starts) (span .ends)
+  pub lent-back : {last new : List ℕ} → last ≡ new → putMid from (to - from) words last ≡ splice first long new words
+  lent-back {new = new} e =
+      ap (putMid from (to - from) words) e
+      ∙ ap₂ (λ (a e : ℕ). putMid a (e - a) words new) (span .starts) (span .ends)
       ∙ ap (λ (rest : List ℕ). take first words ++ (new ++ rest)) (post-is first (first + long) words (omega arith))
 
 -- Well-formed words have a handler.
@@ -52,12 +58,15 @@ module _ {words : List ℕ} {m i : ℕ} (seated : Seated words m i) where
   module _ {from to : ℕ} (span : Spans (handlerStart m i) (handlerLong m) from to) where
     -- The block lies in the words.
     pub block-fits : (from ≤ to) × (to ≤ length words)
-    block-fits = (omega (arith, span .starts, span .ends), omega (arith, span .ends, handler-fits m (handlersOf words) i (seated .handler), seated-holds .fits))
+    block-fits = (
+      omega (arith, span .starts, span .ends),
+      omega (arith, span .ends, handler-fits m (handlersOf words) i (seated .handler), seated-holds .fits)
+    )
 
     -- What is lent is the words of a block.
     pub block-words : Block m (take (to - from) (drop from words))
     block-words = record {
-      size = ap length (lent-part span words) ∙ handler-part-length m (handlersOf words) words (seated-holds .fits) i (seated .handler);
+      size = lent-length span words (omega (arith, handler-fits m (handlersOf words) i (seated .handler), seated-holds .fits));
       cells = seated .formed .few;
     }
 
@@ -78,8 +87,7 @@ module _ {words : List ℕ} {m i : ℕ} (seated : Seated words m i) where
         → putMid from (to - from) words new
         ≡ holding words (cellsOf words) (handlersOf words) (withHandler (viewed words) i (made (cellsOf words) (viewed words .handlers i)))
     block-back made new e =
-        ap (putMid from (to - from) words) (e ∙ ap (λ h. pourHandler m (made m h)) block-says)
-        ∙ lent-back span words (pourHandler m handler) ∙ holds-is (block-put seated-holds i handler (seated .handler)) ∙ ap held (seated .formed .cells)
+        lent-back span words (e ∙ ap (λ h. pourHandler m (made m h)) block-says) ∙ holds-is (block-put seated-holds i handler (seated .handler)) ∙ ap held (seated .formed .cells)
       where
         handler : Handler ℕ
         handler = made m (view m (handlersOf words) words .handlers i)

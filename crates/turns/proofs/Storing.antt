@@ -1,5 +1,5 @@
 -- What storing the written cells does, cell after cell, and that with the handler settled it is the rules' commit.
-use Prim.Native.Nat.{ℕ, _+_, _<_}
+use Prim.Native.Nat.{ℕ, _+_, _≤_, _<_}
 use mathlib.Core.Path.{_≡_, refl, sym, _∙_, subst, fun-ext}
 use mathlib.Core.Bool.{true, false, _&&_, and-false}
 use mathlib.Core.List.{List}
@@ -90,6 +90,12 @@ module _ (m written : ℕ) (copies numbers : ℕ → ℕ) (words : List ℕ) whe
       next n r rest holds = by (hasBit written c)
           (λ is-written. rw (is-written, stored-written written copies numbers r c is-written) (cell-put holds c cell inside))
           (λ unwritten. rw (unwritten, stored-other written copies numbers r c unwritten) holds)
+
+  -- As many cells as there are have been looked at.
+  pub stores-all : {k : ℕ} {after : List ℕ} → Stores m k written copies numbers words after → k ≤ m → m ≤ k
+      → Stores m m written copies numbers words after
+  stores-all {k} {after} stores most least =
+      subst (λ c. Stores m c written copies numbers words after) (let same : k ≡ m = omega arith in same) stores
 
 -- ── The commit ────────────────────────────────────────────────────────
 

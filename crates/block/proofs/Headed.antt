@@ -1,0 +1,128 @@
+-- A block at a transaction's begin and at its end. It is written from the front: three words, the handler's numbers, and what is
+-- behind them, which leaves the front as it was.
+use Prim.Native.Nat.{ℕ, _+_, _*_, _≤_, _<_}
+use mathlib.Core.Path.{_≡_, sym, ap, _∙_, subst}
+use mathlib.Core.Bool.{Bool, true, false}
+use mathlib.Core.List.{List}
+use native.Mathlib.Omega.{arith}
+use lib.ListN.{length, getD, set}
+use Rattle.rules.specs.Register.{Handler, noCells, zeros, idle}
+use Rattle.rules.specs.Figure.{begun}
+use Rattle.layout.specs.Bits.{bit}
+use Rattle.layout.specs.Places.{handlerLong, phaseIn, readSetIn, writtenSetIn, handlerNumberIn, transactionNumberIn, copyIn}
+use Rattle.layout.specs.View.{wordSetting, viewHandler, pourHandler}
+use Rattle.layout.proofs.Bits.{mask-none}
+use Rattle.layout.proofs.Rows.{below-inside}
+use Rattle.layout.proofs.Blocks.{HoldsHandler, handler-is, poured-handler}
+use Rattle.layout.proofs.Untouched.{Untouched}
+use Rattle.words.specs.Rows.{Changed}
+use Rattle.block.proofs.Stores.{Stored, stored}
+
+-- The block begins with a phase, two empty sets and a table of numbers.
+pub record Headed (m word : ℕ) (table : ℕ → ℕ) (block : List ℕ) : Type 0 where
+  pub size : length block ≡ handlerLong m
+  pub phase : phaseIn block ≡ word
+  pub readSet : readSetIn block ≡ 0
+  pub writtenSet : writtenSetIn block ≡ 0
+  pub numbers : (y : ℕ) → y < m → handlerNumberIn block y ≡ table y
+
+-- The words of a block after the three stores that each begin and end makes first.
+abbrev pub withHead : ℕ → List ℕ → List ℕ
+withHead word block = set (set (set block 0 word) 1 0) 2 0
+
+-- After these stores a block begins so, with the numbers that it said before.
+pub headed : (m word : ℕ) (block : List ℕ) → length block ≡ handlerLong m
+    → Headed m word (viewHandler m block .numbers) (withHead word block)
+unfolding viewHandler
+headed m word block size = record {
+  size = third .size ∙ second .size ∙ first .size ∙ size;
+  phase = third .other 0 (omega arith) ∙ second .other 0 (omega arith) ∙ first .here;
+  readSet = third .other 1 (omega arith) ∙ second .here;
+  writtenSet = third .here;
+  numbers = λ y h. third .other (3 + y) (omega arith) ∙ second .other (3 + y) (omega arith) ∙ first .other (3 + y) (omega arith)
+      ∙ sym (below-inside m 0 (handlerNumberIn block) y h);
+}
+  where
+    first : Stored 0 word block (set block 0 word)
+    first = stored 0 word block (omega arith)
+
+    second : Stored 1 0 (set block 0 word) (set (set block 0 word) 1 0)
+    second = stored 1 0 (set block 0 word) (omega (arith, first .size))
+
+    third : Stored 2 0 (set (set block 0 word) 1 0) (withHead word block)
+    third = stored 2 0 (set (set block 0 word) 1 0) (omega (arith, first .size, second .size))
+
+-- What changes behind the handler's numbers leaves the front.
+headed-still : {m word from long : ℕ} {table : ℕ → ℕ} {block after : List ℕ} → Headed m word table block → 3 + m ≤ from
+    → Untouched from long block after → Headed m word table after
+headed-still head behind same = record {
+  size = same .size ∙ head .size;
+  phase = same .below 0 (omega arith) ∙ head .phase;
+  readSet = same .below 1 (omega arith) ∙ head .readSet;
+  writtenSet = same .below 2 (omega arith) ∙ head .writtenSet;
+  numbers = λ y h. same .below (3 + y) (omega arith) ∙ head .numbers y h;
+}
+
+-- A handler with empty sets and cleared copies.
+abbrev emptied : Bool → (ℕ → ℕ) → (ℕ → ℕ) → Handler ℕ
+emptied opened numbers transaction = record {
+  opened = opened;
+  readSet = noCells;
+  writtenSet = noCells;
+  numbers = numbers;
+  transaction = transaction;
+  copies = zeros;
+}
+
+-- A block that begins so, with the transaction's numbers and cleared copies behind, is that handler's.
+headed-is : {m : ℕ} {numbers transaction : ℕ → ℕ} {block : List ℕ} (opened : Bool) → Headed m (bit opened) numbers block
+    → ((y : ℕ) → y < m → transactionNumberIn m block y ≡ transaction y) → ((y : ℕ) → y < m → copyIn m block y ≡ 0)
+    → block ≡ pourHandler m (emptied opened numbers transaction)
+headed-is {m} opened head held cleared = handler-is m _ _ (record {
+  size = head .size;
+  phase = head .phase;
+  readSet = head .readSet ∙ sym (mask-none m);
+  writtenSet = head .writtenSet ∙ sym (mask-none m);
+  numbers = head .numbers;
+  transaction = held;
+  copies = cleared;
+})
+
+module _ {m : ℕ} {block : List ℕ} where
+  -- An abort: all behind the handler's numbers is cleared.
+  pub rests : {numbers : ℕ → ℕ} {after : List ℕ} → Headed m 0 numbers block → Changed (3 + m) (2 * m) zeros block after
+      → after ≡ pourHandler m (idle (wordSetting m) numbers)
+  unfolding idle
+  rests {after = after} head changed = headed-is false (headed-still head (omega arith) (changed .untouched))
+      (λ y h. changed .inside y (omega arith))
+      (λ y h. ap (λ k. getD after k 0) (copies y) ∙ changed .inside (m + y) (omega arith))
+    where
+      copies : (y : ℕ) → 3 + 2 * m + y ≡ 3 + m + (m + y)
+      copies y = omega arith
+
+  -- A begin: the handler's numbers are copied behind them, and the copies are cleared.
+  pub begins : {copied after : List ℕ} (h : Handler ℕ) → Headed m 1 (h .numbers) block
+      → Changed (3 + m) m (handlerNumberIn block) block copied → Changed (3 + 2 * m) m zeros copied after
+      → after ≡ pourHandler m (begun (wordSetting m) h)
+  unfolding begun
+  begins h head copies clears = headed-is true
+      (headed-still (headed-still head (omega arith) (copies .untouched)) (omega arith) (clears .untouched))
+      (λ y l. clears .untouched .below (3 + m + y) (omega arith) ∙ copies .inside y l ∙ head .numbers y l)
+      (clears .inside)
+
+  -- A commit: a block at rest takes other numbers.
+  pub settles : {table : ℕ → ℕ} {after : List ℕ} (numbers : ℕ → ℕ) → block ≡ pourHandler m (idle (wordSetting m) numbers)
+      → Changed 3 m table block after → after ≡ pourHandler m (idle (wordSetting m) table)
+  unfolding idle
+  settles {after = after} numbers rested takes = handler-is m _ after (record {
+    size = takes .untouched .size ∙ holds .size;
+    phase = takes .untouched .below 0 (omega arith) ∙ holds .phase;
+    readSet = takes .untouched .below 1 (omega arith) ∙ holds .readSet;
+    writtenSet = takes .untouched .below 2 (omega arith) ∙ holds .writtenSet;
+    numbers = takes .inside;
+    transaction = λ y h. takes .untouched .above (3 + m + y) (omega arith) ∙ holds .transaction y h;
+    copies = λ y h. takes .untouched .above (3 + 2 * m + y) (omega arith) ∙ holds .copies y h;
+  })
+    where
+      holds : HoldsHandler m (idle (wordSetting m) numbers) block
+      holds = subst (HoldsHandler m (idle (wordSetting m) numbers)) (sym rested) (poured-handler m _)

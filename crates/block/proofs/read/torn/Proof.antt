@@ -1,0 +1,49 @@
+-- `block::read::torn` meets its contract: no cell passed has a lower number.
+use Prim.Native.Nat.{ℕ, _-_, _≤_}
+use mathlib.Core.Path.{sym, _∙_}
+use mathlib.Core.List.{List}
+use native.Mathlib.Omega.{arith}
+use borrow.Author.Count.{below-more}
+use Rattle.block.proofs.Searches.{NoneBelow, search-hits, search-misses, lower, torn-asks}
+use Rattle.block.proofs.read.torn.Statement.{statement}
+use Rattle.block.proofs.read.torn.Tie as tie
+
+abbrev Inv-loop : tie.InvT-loop
+Inv-loop block m numbers read transaction y₀ y = (y ≤ m) × NoneBelow (lower m block numbers) y
+
+abbrev μ-loop : tie.MeasureT-loop
+μ-loop block m numbers read transaction y₀ y = m - y
+
+-- The row of numbers, seen from the loop.
+abbrev row : tie.At-loop Inv-loop μ-loop → List ℕ
+row c = c .before .before .before .args .numbers .now
+
+pub torn-spec : {M : Type 1} → statement M
+torn-spec =
+    tie.close
+    (tie.spec
+    Inv-loop
+    μ-loop
+    -- the set and the place
+    (λ c. omega arith)
+    (λ c. omega arith)
+    -- before the first turn
+    (λ c. (omega arith, λ z h. absurd (omega arith)))
+    -- the indices
+    (λ c. omega arith)
+    (λ c. omega arith)
+    (λ c. omega arith)
+    (λ c. omega arith)
+    (λ c. omega arith)
+    -- the test
+    (λ c κs. omega arith)
+    -- it passes
+    (λ c. let loop = c .before .before .before .before .before in
+    search-hits _ _ (torn-asks _ _ (row loop)) _ (omega arith) (c .before .below .ensures) (c .if1 .taken))
+    -- one more turn
+    (λ c. omega arith)
+    (λ c. omega arith)
+    (λ c. let none = c .before .before .before .before .before .loop .inv .1 in
+    (omega arith, below-more _ _ none (sym (c .before .below .ensures) ∙ c .if1 .left)))
+    -- at the end
+    (λ c. search-misses _ _ (torn-asks _ _ (row (c .before))) (c .before .loop .inv .1) (omega arith)))
