@@ -2,25 +2,30 @@
 -- block of another handler put back the words hold the register with that handler.
 use Prim.Native.Nat.{ℕ, _+_, _-_, _≤_, _<_}
 use mathlib.Core.Path.{_≡_, refl, sym, ap, ap₂, _∙_, subst}
+use mathlib.Core.Bool.{true}
 use mathlib.Core.List.{List, _++_}
 use native.Mathlib.Omega.{arith}
 use lib.ListN.{length, take, drop}
+use borrow.Author.Tests.{eqb-true}
 use borrow.Rule.Slice.PartMut.{putMid, post-is}
+use Rattle.rules.specs.Codes.{Step}
+use Rattle.rules.specs.Replies.{Outcome}
 use Rattle.rules.specs.Register.{Handler, withHandler}
 use Rattle.layout.specs.Rows.{part}
 use Rattle.layout.specs.Places.{cellsOf, handlersOf, size, handlerStart, handlerLong, handlerPart}
 use Rattle.layout.specs.View.{viewHandler, view, pourHandler, holding}
 use Rattle.layout.specs.WellFormed.{WellFormed, GoodBlock}
 use Rattle.layout.proofs.Rows.{part-length}
-use Rattle.layout.proofs.Places.{handler-fits}
+use Rattle.layout.proofs.Places.{handler-fits, handler-start-small}
 use Rattle.layout.proofs.PourView.{well-holds}
 use Rattle.layout.proofs.ViewPour.{view-handler}
 use Rattle.layout.proofs.Holds.{Holds, holds-is}
 use Rattle.layout.proofs.OneHandler.{block-put}
 use Rattle.layout.proofs.Untouched.{splice}
-use Rattle.block.specs.Blocks.{Block}
+use Rattle.promises.specs.Stepping.{resultOf}
+use Rattle.block.specs.Blocks.{Block, OpenBlock}
 use Rattle.turns.specs.Spans.{Spans}
-use Rattle.turns.specs.Takes.{viewed, Seated}
+use Rattle.turns.specs.Takes.{viewed, Seated, Takes}
 
 module _ {first long from to : ℕ} (span : Spans first long from to) (words : List ℕ) where
   -- What is lent is the part.
@@ -56,17 +61,17 @@ module _ {words : List ℕ} {m i : ℕ} (seated : Seated words m i) where
       (sym (seated .formed .cells)) (well-holds words (seated .formed .wellFormed))
 
   module _ {from to : ℕ} (span : Spans (handlerStart m i) (handlerLong m) from to) where
-    -- The block lies in the words.
-    pub block-fits : (from ≤ to) × (to ≤ length words)
-    block-fits = (
-      omega (arith, span .starts, span .ends),
-      omega (arith, span .ends, handler-fits m (handlersOf words) i (seated .handler), seated-holds .fits)
-    )
+    -- The block lies in the words, and not far behind.
+    pub block-lies : (from ≤ to) × (to ≤ length words) × (from ≤ 2642)
+    block-lies =
+        let fits = handler-fits m (handlersOf words) i (seated .handler) in
+        let near = handler-start-small m i (seated .formed .few) (omega (arith, seated .low)) in
+        omega (arith, span .starts, span .ends, seated .formed .fits)
 
     -- What is lent is the words of a block.
     pub block-words : Block m (take (to - from) (drop from words))
     block-words = record {
-      size = lent-length span words (omega (arith, handler-fits m (handlersOf words) i (seated .handler), seated-holds .fits));
+      size = lent-length span words (omega (arith, handler-fits m (handlersOf words) i (seated .handler), seated .formed .fits));
       cells = seated .formed .few;
     }
 
@@ -81,13 +86,23 @@ module _ {words : List ℕ} {m i : ℕ} (seated : Seated words m i) where
     pub block-says : viewHandler m (take (to - from) (drop from words)) ≡ view m (handlersOf words) words .handlers i
     block-says = ap (viewHandler m) (lent-part span words) ∙ sym (view-handler m (handlersOf words) words i (seated .handler))
 
+    -- What is lent is a good block of an open handler, where the register says so.
+    pub block-open : viewed words .handlers i .opened ≡ true → OpenBlock m (take (to - from) (drop from words))
+    unfolding viewHandler
+    block-open opened = record {
+      words = block-words;
+      good = block-good;
+      opened = eqb-true _ 1 (ap (λ h. h .opened) block-says ∙ ap (λ k. view k (handlersOf words) words .handlers i .opened) (seated .formed .cells) ∙ opened);
+    }
+
     -- With the block of a handler made of the lent one put back, the words hold the register with that handler.
     pub block-back : (made : ℕ → Handler ℕ → Handler ℕ) (new : List ℕ)
         → new ≡ pourHandler m (made m (viewHandler m (take (to - from) (drop from words))))
         → putMid from (to - from) words new
         ≡ holding words (cellsOf words) (handlersOf words) (withHandler (viewed words) i (made (cellsOf words) (viewed words .handlers i)))
     block-back made new e =
-        lent-back span words (e ∙ ap (λ h. pourHandler m (made m h)) block-says) ∙ holds-is (block-put seated-holds i handler (seated .handler)) ∙ ap held (seated .formed .cells)
+        lent-back span words (e ∙ ap (λ h. pourHandler m (made m h)) block-says)
+        ∙ holds-is (block-put seated-holds i handler (seated .handler)) ∙ ap held (seated .formed .cells)
       where
         handler : Handler ℕ
         handler = made m (view m (handlersOf words) words .handlers i)
@@ -96,3 +111,14 @@ module _ {words : List ℕ} {m i : ℕ} (seated : Seated words m i) where
         held k =
             let r = view k (handlersOf words) words in
             holding words k (handlersOf words) (withHandler r i (made k (r .handlers i)))
+
+    -- A step of the rules that leaves one handler made of the one before is taken by putting its block back.
+    pub lent-takes : (made : ℕ → Handler ℕ → Handler ℕ) {s : Step} {value : ℕ} {said outcome : Outcome ℕ} {last : List ℕ}
+        → resultOf words i s value
+        ≡ record { outcome = said; after = withHandler (viewed words) i (made (cellsOf words) (viewed words .handlers i)) }
+        → outcome ≡ said → last ≡ pourHandler m (made m (viewHandler m (take (to - from) (drop from words))))
+        → Takes words i s value outcome (putMid from (to - from) words last)
+    lent-takes made {last = last} result same back = record {
+      replied = same ∙ ap (λ q. q .outcome) (sym result);
+      left = block-back made last back ∙ ap (λ q. holding words (cellsOf words) (handlersOf words) (q .after)) (sym result);
+    }

@@ -1,12 +1,13 @@
 // The steps on a whole register: where each part lies, and the handler's block lent on to be written.
 // Internal: called by our crates alone, which show what each function requires.
-mod attempt;
+
 mod places;
 mod single;
 mod store;
+mod tries;
 
-pub use attempt::attempt;
 pub use single::begin;
 pub use single::is_open;
 pub use single::read;
 pub use single::write;
+pub use tries::attempt;
