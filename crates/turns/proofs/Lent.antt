@@ -61,8 +61,8 @@ module _ {words : List ℕ} {m i : ℕ} (seated : Seated words m i) where
       (sym (seated .formed .cells)) (well-holds words (seated .formed .wellFormed))
 
   module _ {from to : ℕ} (span : Spans (handlerStart m i) (handlerLong m) from to) where
-    -- The block lies in the words, and not far behind.
-    pub block-lies : (from ≤ to) × (to ≤ length words) × (from ≤ 2642)
+    -- The block lies in the words, not far behind, and is as long as a handler.
+    pub block-lies : (from ≤ to) × (to ≤ length words) × (from ≤ 2642) × (to ≡ from + handlerLong m)
     block-lies =
         let fits = handler-fits m (handlersOf words) i (seated .handler) in
         let near = handler-start-small m i (seated .formed .few) (omega (arith, seated .low)) in

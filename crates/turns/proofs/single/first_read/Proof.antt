@@ -1,79 +1,37 @@
+-- `turns::single::first_read` meets its contract: the cell is copied out, then the handler's block is lent and comes back.
+use native.Mathlib.Omega.{arith}
 use borrow.Author.Needs.{needs}
+use Rattle.layout.proofs.Places.{cell-ends, cell-start-small}
+use Rattle.turns.proofs.Lent.{block-lies, block-open}
+use Rattle.turns.proofs.Reading.{first-read-takes}
 use Rattle.turns.proofs.single.first_read.Statement.{statement}
 use Rattle.turns.proofs.single.first_read.Tie as tie
-use Rattle.turns.proofs.single.first_read.Reads as reads
-use Rattle.turns.proofs.single.first_read.Lts as lts
-use Rattle.block.proofs.first_read.Reads as first-read-reads
-use Rattle.turns.proofs.places.block_at.Reads as block-at-reads
-use Rattle.turns.proofs.places.cell_at.Reads as cell-at-reads
-use Rattle.words.proofs.copy_out.Reads as copy-out-reads
-
--- src/single.rt:50:9
-cell-at-requires : tie.Need-cell-at-requires
-cell-at-requires c κs = search needs
-
--- src/single.rt:52:17
-mul-value : tie.Need-mul-value
-mul-value c = ?
-
--- src/single.rt:52:17
-slice-read-value : tie.Need-slice-read-value
-slice-read-value c = ?
-
--- src/single.rt:53:42
-add-copy-out : tie.Need-add-copy-out
-add-copy-out c = search needs
-
--- src/single.rt:53:19
-copy-out-requires : tie.Need-copy-out-requires
-copy-out-requires c κs = ?
-
--- src/single.rt:54:9
-block-at-requires : tie.Need-block-at-requires
-block-at-requires c κs = search needs
-
--- src/single.rt:57:23
-mul-first-read : tie.Need-mul-first-read
-mul-first-read c = ?
-
--- src/single.rt:57:23
-sub-first-read : tie.Need-sub-first-read
-sub-first-read c = search needs
-
--- src/single.rt:57:23
-part-first-read-start : tie.Need-part-first-read-start
-part-first-read-start c = search needs
-
--- src/single.rt:57:23
-part-first-read-end : tie.Need-part-first-read-end
-part-first-read-end c = ?
-
--- src/single.rt:57:5
-first-read-requires : tie.Need-first-read-requires
-first-read-requires c κs = ?
-
--- src/single.rt:46:1
-same-length : tie.Need-same-length
-same-length c = search needs
-
--- src/single.rt:46:1
-returns : tie.Need-returns
-returns c = ?
 
 pub first-read-spec : {M : Type 1} → statement M
 first-read-spec =
     tie.close
     (tie.spec
-    cell-at-requires
-    mul-value
-    slice-read-value
-    add-copy-out
-    copy-out-requires
-    block-at-requires
-    mul-first-read
-    sub-first-read
-    part-first-read-start
-    part-first-read-end
-    first-read-requires
-    same-length
-    returns)
+    (λ c κs. search needs)
+    -- the cell lies in the words
+    (λ c. let entry = c .before .before in
+    omega (arith, cell-start-small (entry .args .m) (entry .args .x) (omega arith) (omega arith)))
+    (λ c. let entry = c .before .before .before in
+    omega (arith, cell-ends (entry .args .m) (entry .args .x) (entry .pre .ready .cell)))
+    (λ c. omega arith)
+    (λ c κs. let entry = c .before .before .before .before in
+    omega (arith, cell-ends (entry .args .m) (entry .args .x) (entry .pre .ready .cell)))
+    (λ c κs. search needs)
+    -- the block lies in the words
+    (λ c. omega (arith, block-lies (c .before .before .before .before .before .before .pre .ready .seated) (c .block-at .ensures)))
+    (λ c. omega arith)
+    (λ c. search needs)
+    (λ c. omega (arith, block-lies (c .before .before .before .before .before .before .pre .ready .seated) (c .block-at .ensures)))
+    (λ c κs. let ready = c .before .before .before .before .before .before .before .before .pre .ready in
+    (block-open (ready .seated) (c .before .before .block-at .ensures) (ready .phase), ready .cell))
+    (λ c. search needs)
+    -- what comes back is the rules' handler
+    (λ c. let at = c .before .before .before .before .before in
+    let copied = at .before in
+    let cell = copied .before .before .before in
+    first-read-takes (cell .before .before .pre) (at .block-at .ensures) (cell .cell-at .ensures .starts) (copied .copy-out .ensures)
+    (c .before .before .first-read .ensures)))

@@ -12,5 +12,5 @@ is-open-spec =
     (tie.spec
     (λ c κs. search needs)
     (λ c. omega (arith, block-lies (c .before .before .pre) (c .block-at .ensures)))
-    (λ c. omega (arith, block-lies (c .before .before .before .pre) (c .before .block-at .ensures), c .before .block-at .ensures .ends))
+    (λ c. omega (arith, block-lies (c .before .before .before .pre) (c .before .block-at .ensures)))
     (λ c. phase-said (c .before .before .before .pre) (c .before .block-at .ensures .starts)))

@@ -1,128 +1,93 @@
+-- `turns::single::read` meets its contract: the local copy of a cell in either set, and else the first read.
+use Prim.Native.Nat.{_+_, _≤_}
+use mathlib.Core.Path.{_≡_, sym, _∙_}
+use mathlib.Core.Bool.{true, false, _||_, or-true}
+use native.Mathlib.Omega.{arith}
+use lib.ListN.{length}
 use borrow.Author.Needs.{needs}
+use Rattle.layout.specs.Places.{handlerLong}
+use Rattle.turns.specs.Takes.{viewed}
+use Rattle.turns.proofs.Lent.{block-lies}
+use Rattle.turns.proofs.Said.{read-said, written-said, copy-said}
+use Rattle.turns.proofs.Reading.{again-takes}
 use Rattle.turns.proofs.single.read.Statement.{statement}
 use Rattle.turns.proofs.single.read.Tie as tie
-use Rattle.turns.proofs.single.read.Reads as reads
-use Rattle.turns.proofs.single.read.Lts as lts
-use Rattle.turns.proofs.places.block_at.Reads as block-at-reads
-use Rattle.turns.proofs.single.first_read.Reads as first-read-reads
-use Rattle.words.proofs.has.Reads as has-reads
 
--- src/single.rt:65:9
-block-at-requires : tie.Need-block-at-requires
-block-at-requires c κs = search needs
+-- The handler's block lies in the words.
+lies : (c : tie.After-block-at) → let entry = c .before .before in
+    let from = c .block-at .result .start in
+    (from + handlerLong (entry .args .m) ≤ length (entry .args .words .now)) × (from ≤ 2642)
+lies c = omega (arith, block-lies (c .before .before .pre .seated) (c .block-at .ensures))
 
--- src/single.rt:67:22
-add-read : tie.Need-add-read
-add-read c = search needs
+-- Whether the cell is in the read set was answered.
+read-told : (c : tie.After-has) → let entry = c .before .before .before .before .before in
+    c .has .result ≡ viewed (entry .args .words .now) .handlers (entry .args .i) .readSet (entry .args .x)
+read-told c =
+    let at = c .before .before .before in
+    let ready = at .before .before .pre in
+    c .has .ensures ∙ read-said (ready .seated) (at .block-at .ensures .starts) _ (ready .cell)
 
--- src/single.rt:67:16
-mul-read : tie.Need-mul-read
-mul-read c = ?
+-- Whether the cell is in the written set was answered.
+written-told : (c : tie.After-has2) → let entry = c .before .before .before .before .before .before .before in
+    c .has2 .result ≡ viewed (entry .args .words .now) .handlers (entry .args .i) .writtenSet (entry .args .x)
+written-told c =
+    let at = c .before .before .before .before .before in
+    let ready = at .before .before .pre in
+    c .has2 .ensures ∙ written-said (ready .seated) (at .block-at .ensures .starts) _ (ready .cell)
 
--- src/single.rt:67:16
-slice-read-read : tie.Need-slice-read-read
-slice-read-read c = ?
-
--- src/single.rt:68:25
-add-written : tie.Need-add-written
-add-written c = search needs
-
--- src/single.rt:68:19
-mul-written : tie.Need-mul-written
-mul-written c = ?
-
--- src/single.rt:68:19
-slice-read-written : tie.Need-slice-read-written
-slice-read-written c = ?
-
--- src/single.rt:69:18
-add-copies : tie.Need-add-copies
-add-copies c = search needs
-
--- src/single.rt:69:30
-mul-copies : tie.Need-mul-copies
-mul-copies c = search needs
-
--- src/single.rt:69:18
-add-copies-2 : tie.Need-add-copies-2
-add-copies-2 c = search needs
-
--- src/single.rt:70:8
-has-requires : tie.Need-has-requires
-has-requires c κs = search needs
-
--- src/single.rt:71:37
-add-t16 : tie.Need-add-t16
-add-t16 c = search needs
-
--- src/single.rt:71:31
-mul-t17 : tie.Need-mul-t17
-mul-t17 c = ?
-
--- src/single.rt:71:31
-slice-read-t19 : tie.Need-slice-read-t19
-slice-read-t19 c = ?
-
--- src/single.rt:71:9
+-- The cell is in the read set: its copy.
 returns : tie.Need-returns
-returns c = ?
+returns c =
+    let at = c .before .before .before .before .before in
+    let ready = at .before .before .pre in
+    again-takes (ready .seated .formed .wellFormed)
+    (rw (sym (read-told (c .before .before)) ∙ c .before .if1 .taken))
+    (copy-said (ready .seated) (at .block-at .ensures .starts) _ (ready .cell))
 
--- src/single.rt:73:8
-has-requires-2 : tie.Need-has-requires-2
-has-requires-2 c κs = search needs
-
--- src/single.rt:74:37
-add-t21 : tie.Need-add-t21
-add-t21 c = search needs
-
--- src/single.rt:74:31
-mul-t22 : tie.Need-mul-t22
-mul-t22 c = ?
-
--- src/single.rt:74:31
-slice-read-t24 : tie.Need-slice-read-t24
-slice-read-t24 c = ?
-
--- src/single.rt:74:9
+-- The cell is in the written set: its copy.
 returns-2 : tie.Need-returns-2
-returns-2 c = ?
-
--- src/single.rt:76:5
-first-read-requires : tie.Need-first-read-requires
-first-read-requires c κs = ?
-
--- src/single.rt:61:1
-same-length : tie.Need-same-length
-same-length c = search needs
-
--- src/single.rt:61:1
-returns-3 : tie.Need-returns-3
-returns-3 c = search needs
+returns-2 c =
+    let at = c .before .before .before .before .before .before .before in
+    let ready = at .before .before .pre in
+    again-takes (ready .seated .formed .wellFormed)
+    (rw (sym (written-told (c .before .before)) ∙ c .before .if2 .taken) (simp or-true))
+    (copy-said (ready .seated) (at .block-at .ensures .starts) _ (ready .cell))
 
 pub read-spec : {M : Type 1} → statement M
 read-spec =
     tie.close
     (tie.spec
-    block-at-requires
-    add-read
-    mul-read
-    slice-read-read
-    add-written
-    mul-written
-    slice-read-written
-    add-copies
-    mul-copies
-    add-copies-2
-    has-requires
-    add-t16
-    mul-t17
-    slice-read-t19
+    (λ c κs. search needs)
+    -- the sets
+    (λ c. search needs)
+    (λ c. omega (arith, lies c))
+    (λ c. omega (arith, lies (c .before)))
+    (λ c. search needs)
+    (λ c. omega (arith, lies (c .before)))
+    (λ c. omega (arith, lies (c .before .before)))
+    -- where the copies begin
+    (λ c. omega (arith, lies (c .before .before)))
+    (λ c. search needs)
+    (λ c. omega (arith, lies (c .before .before)))
+    (λ c κs. search needs)
+    -- a cell in the read set
+    (λ c. omega (arith, lies (c .before .before .before .before)))
+    (λ c. omega (arith, lies (c .before .before .before .before)))
+    (λ c. omega (arith, lies (c .before .before .before .before .before)))
     returns
-    has-requires-2
-    add-t21
-    mul-t22
-    slice-read-t24
+    (λ c κs. search needs)
+    -- a cell in the written set
+    (λ c. omega (arith, lies (c .before .before .before .before .before .before)))
+    (λ c. omega (arith, lies (c .before .before .before .before .before .before)))
+    (λ c. omega (arith, lies (c .before .before .before .before .before .before .before)))
     returns-2
-    first-read-requires
-    same-length
-    returns-3)
+    -- the first read
+    (λ c κs. let answered = c .before .before in
+    let once = answered .before .before in
+    record {
+      ready = once .before .before .before .before .before .pre;
+      unread = sym (read-told once) ∙ answered .before .if1 .left;
+      unwritten = sym (written-told answered) ∙ c .before .if2 .left;
+    })
+    (λ c. search needs)
+    (λ c. c .before .before .first-read .ensures))
