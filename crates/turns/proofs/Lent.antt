@@ -68,12 +68,16 @@ module _ {words : List ℕ} {m i : ℕ} (seated : Seated words m i) where
         let near = handler-start-small m i (seated .formed .few) (omega (arith, seated .low)) in
         omega (arith, span .starts, span .ends, seated .formed .fits)
 
-    -- What is lent is the words of a block.
-    pub block-words : Block m (take (to - from) (drop from words))
-    block-words = record {
-      size = lent-length span words (omega (arith, handler-fits m (handlersOf words) i (seated .handler), seated .formed .fits));
+    -- What is lent of as many words is the words of a block.
+    pub block-of : (others : List ℕ) → length others ≡ length words → Block m (take (to - from) (drop from others))
+    block-of others same = record {
+      size = lent-length span others (omega (arith, handler-fits m (handlersOf words) i (seated .handler), seated .formed .fits));
       cells = seated .formed .few;
     }
+
+    -- What is lent is the words of a block.
+    pub block-words : Block m (take (to - from) (drop from words))
+    block-words = block-of words refl
 
     -- What is lent is a good block.
     pub block-good : GoodBlock m (take (to - from) (drop from words))

@@ -4,3 +4,4 @@ pub mod Said
 pub mod Reading
 pub mod Storing
 pub mod Trying
+pub mod Committing

@@ -13,14 +13,11 @@ use Rattle.rules.specs.Figure.{Result, stamped, isOvertaken, isSpent, aborting,
 use Rattle.rules.proofs.Tables.{by}
 use Rattle.rules.proofs.Confined.{Confined}
 use Rattle.layout.specs.Bits.{hasBit}
-use Rattle.layout.specs.Places.{cellsOf, handlersOf}
-use Rattle.layout.specs.View.{wordSetting}
+use Rattle.layout.specs.View.{wordSetting, view}
 use Rattle.layout.proofs.ViewPour.{view-confined}
 use Rattle.words.specs.Rows.{RowOf}
 use Rattle.words.proofs.Changes.{row-is}
 use Rattle.block.specs.Blocks.{rowTable}
-use Rattle.turns.specs.Takes.{viewed}
-use Rattle.turns.specs.Stores.{ownNumbers}
 
 -- ── The ways of a try ─────────────────────────────────────────────────
 
@@ -48,27 +45,29 @@ module _ (m : ℕ) (r : Register ℕ) (i v : ℕ) where
 
 -- ── Rows of numbers ───────────────────────────────────────────────────
 
-module _ (words : List ℕ) where
-  confined : Confined (wordSetting (cellsOf words)) (handlersOf words) (viewed words)
-  confined = view-confined (cellsOf words) (handlersOf words) words
+-- What rows stand for, of the register of m cells and n handlers that the words say.
+module _ (m n : ℕ) (words : List ℕ) where
+  confined : Confined (wordSetting m) n (view m n words)
+  confined = view-confined m n words
 
   -- A row of the cells' own numbers stands for them.
-  pub own-is : {row : List ℕ} → RowOf (cellsOf words) (ownNumbers words) row → rowTable row ≡ ownNumbers words
+  pub own-is : {row : List ℕ} → RowOf m (λ c. view m n words .cells c .numbers c) row → rowTable row ≡ (λ c. view m n words .cells c .numbers c)
   own-is of = row-is of (λ c h. confined .cell c c h)
 
-  -- A cell beyond is not written.
-  pub written-is : (i written : ℕ) → ((c : ℕ) → c < cellsOf words → hasBit written c ≡ viewed words .handlers i .writtenSet c)
-      → (c : ℕ) → ltb c (cellsOf words) && hasBit written c ≡ viewed words .handlers i .writtenSet c
-  written-is i written said c = by (ltb c (cellsOf words))
-      (λ e. rw e (said c (ltb-true c (cellsOf words) e)))
-      (λ e. rw e (sym (confined .handler i .writtenSet c (ltb-false c (cellsOf words) e))))
+  module _ (i : ℕ) where
+    -- The written set's word, cut at m, is the written set.
+    pub written-is : (written : ℕ) → ((c : ℕ) → c < m → hasBit written c ≡ view m n words .handlers i .writtenSet c)
+        → (c : ℕ) → ltb c m && hasBit written c ≡ view m n words .handlers i .writtenSet c
+    written-is written said c = by (ltb c m)
+        (λ e. rw e (said c (ltb-true c m e)))
+        (λ e. rw e (sym (confined .handler i .writtenSet c (ltb-false c m e))))
 
-  -- A row of the copies stands for them.
-  pub copies-are : (i : ℕ) {row : List ℕ} → RowOf (cellsOf words) (viewed words .handlers i .copies) row → rowTable row ≡ viewed words .handlers i .copies
-  copies-are i of = row-is of (confined .handler i .copies)
+    -- A row of the copies stands for them.
+    pub copies-are : {row : List ℕ} → RowOf m (view m n words .handlers i .copies) row → rowTable row ≡ view m n words .handlers i .copies
+    copies-are of = row-is of (confined .handler i .copies)
 
-  -- A row of the stamped numbers stands for them.
-  pub stamps-are : (i : ℕ) {row : List ℕ} → RowOf (cellsOf words) (stamped (viewed words) (viewed words .handlers i)) row
-      → rowTable row ≡ stamped (viewed words) (viewed words .handlers i)
-  unfolding stamped
-  stamps-are i of = row-is of (λ c h. rw (confined .handler i .writtenSet c h) (confined .handler i .transaction c h))
+    -- A row of the stamped numbers stands for them.
+    pub stamps-are : {row : List ℕ} → RowOf m (stamped (view m n words) (view m n words .handlers i)) row
+        → rowTable row ≡ stamped (view m n words) (view m n words .handlers i)
+    unfolding stamped
+    stamps-are of = row-is of (λ c h. rw (confined .handler i .writtenSet c h) (confined .handler i .transaction c h))

@@ -7,10 +7,11 @@ use Rattle.block.proofs.Headed.{headed, begins}
 use Rattle.block.proofs.ends.begin.Statement.{statement}
 use Rattle.block.proofs.ends.begin.Tie as tie
 
--- Where the function starts, and where the numbers are copied, seen from its end.
+-- Where the function starts, seen from its end.
 abbrev start : tie.After-slice-known3 → tie.Start
 start c = c .before .before .before .before .before .before .before .before .before
 
+-- Where the numbers are copied, seen from the end.
 abbrev copied : tie.After-slice-known3 → tie.After-copy
 copied c = c .before .before .before .before .before .before
 

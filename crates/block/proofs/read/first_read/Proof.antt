@@ -9,17 +9,19 @@ use Rattle.block.proofs.FirstRead.{read-torn, read-taken}
 use Rattle.block.proofs.read.first_read.Statement.{statement}
 use Rattle.block.proofs.read.first_read.Tie as tie
 
--- The abort's branch and the other, seen from where each ends.
+-- The branch of the abort, seen from its end.
 abbrev aborts : tie.After-slice-known3 → tie.Then1
 aborts c = c .before .before .before .before
 
+-- The branch of a read that goes on, seen from its end.
 abbrev goes-on : tie.After-slice-known4 → tie.Else1
 goes-on c = c .before .before .before .before
 
--- Where the cell joins, and where the function starts, seen from the test.
+-- Where the cell joins, seen from the test.
 abbrev joins : tie.After-torn → tie.After-with-cell
 joins c = c .before .before
 
+-- Where the function starts, seen from the test.
 abbrev start : tie.After-torn → tie.Start
 start c = joins c .before .before .before .before
 

@@ -1,120 +1,65 @@
+-- `turns::tries::commit` meets its contract: all numbers are stamped, then the written cells are stored, then the block is settled.
+use Prim.Native.Nat.{_+_, _≤_}
+use mathlib.Core.Path.{_≡_}
+use native.Mathlib.Omega.{arith}
+use lib.ListN.{length}
 use borrow.Author.Needs.{needs}
+use Rattle.layout.specs.Places.{handlerLong}
+use Rattle.turns.proofs.Lent.{block-lies, block-words, block-of}
+use Rattle.turns.proofs.Committing.{own-fits, commits}
 use Rattle.turns.proofs.tries.commit.Statement.{statement}
 use Rattle.turns.proofs.tries.commit.Tie as tie
-use Rattle.turns.proofs.tries.commit.Reads as reads
-use Rattle.turns.proofs.tries.commit.Lts as lts
-use Rattle.block.proofs.stamps.Reads as stamps-reads
-use Rattle.block.proofs.settle.Reads as settle-reads
-use Rattle.turns.proofs.places.block_at.Reads as block-at-reads
-use Rattle.turns.proofs.store.store.Reads as store-reads
-use Rattle.words.proofs.copy_out.Reads as copy-out-reads
 
--- src/tries.rt:18:9
-block-at-requires : tie.Need-block-at-requires
-block-at-requires c κs = search needs
+-- The handler's block lies in the words.
+lies : (c : tie.After-block-at) → let entry = c .before .before in
+    let from = c .block-at .result .start in
+    (from + handlerLong (entry .args .m) ≤ length (entry .args .words .now)) × (from ≤ 2642)
+lies c = omega (arith, block-lies (c .before .before .pre .0 .seated) (c .block-at .ensures))
 
--- src/tries.rt:21:33
-mul-stamps : tie.Need-mul-stamps
-mul-stamps c = ?
+-- What was there before the cells were stored, and before the block was settled.
+abbrev stored-from : tie.After-slice-known3 → tie.After-block-at
+stored-from c = c .before .before .before .before .before .before .before .before .before .before .before .before
 
--- src/tries.rt:21:33
-sub-stamps : tie.Need-sub-stamps
-sub-stamps c = search needs
-
--- src/tries.rt:21:33
-part-stamps-start : tie.Need-part-stamps-start
-part-stamps-start c = search needs
-
--- src/tries.rt:21:33
-part-stamps-end : tie.Need-part-stamps-end
-part-stamps-end c = ?
-
--- src/tries.rt:21:19
-stamps-requires : tie.Need-stamps-requires
-stamps-requires c κs = ?
-
--- src/tries.rt:22:41
-add-copy-out : tie.Need-add-copy-out
-add-copy-out c = search needs
-
--- src/tries.rt:22:53
-mul-copy-out : tie.Need-mul-copy-out
-mul-copy-out c = search needs
-
--- src/tries.rt:22:41
-add-copy-out-2 : tie.Need-add-copy-out-2
-add-copy-out-2 c = search needs
-
--- src/tries.rt:22:18
-copy-out-requires : tie.Need-copy-out-requires
-copy-out-requires c κs = ?
-
--- src/tries.rt:23:25
-add-written : tie.Need-add-written
-add-written c = search needs
-
--- src/tries.rt:23:19
-mul-written : tie.Need-mul-written
-mul-written c = ?
-
--- src/tries.rt:23:19
-slice-read-written : tie.Need-slice-read-written
-slice-read-written c = ?
-
--- src/tries.rt:24:5
-store-requires : tie.Need-store-requires
-store-requires c κs = search needs
-
--- src/tries.rt:25:19
-mul-settle : tie.Need-mul-settle
-mul-settle c = ?
-
--- src/tries.rt:25:19
-sub-settle : tie.Need-sub-settle
-sub-settle c = search needs
-
--- src/tries.rt:25:19
-part-settle-start : tie.Need-part-settle-start
-part-settle-start c = search needs
-
--- src/tries.rt:25:19
-part-settle-end : tie.Need-part-settle-end
-part-settle-end c = ?
-
--- src/tries.rt:25:5
-settle-requires : tie.Need-settle-requires
-settle-requires c κs = search needs
-
--- src/tries.rt:14:1
-same-length : tie.Need-same-length
-same-length c = search needs
-
--- src/tries.rt:14:1
-returns : tie.Need-returns
-returns c = ?
+-- The stored words are as many as before.
+stored-long : (c : tie.After-slice-known3) → length (c .before .before .store .last .0) ≡ length (stored-from c .before .before .args .words .now)
+stored-long c = c .before .before .store .ensures .size
 
 pub commit-spec : {M : Type 1} → statement M
 commit-spec =
     tie.close
     (tie.spec
-    block-at-requires
-    mul-stamps
-    sub-stamps
-    part-stamps-start
-    part-stamps-end
-    stamps-requires
-    add-copy-out
-    mul-copy-out
-    add-copy-out-2
-    copy-out-requires
-    add-written
-    mul-written
-    slice-read-written
-    store-requires
-    mul-settle
-    sub-settle
-    part-settle-start
-    part-settle-end
-    settle-requires
-    same-length
-    returns)
+    (λ c κs. search needs)
+    -- the block is looked at
+    (λ c. omega (arith, lies c))
+    (λ c. omega arith)
+    (λ c. search needs)
+    (λ c. let at = c .before in omega (arith, lies at, at .block-at .ensures .ends, at .block-at .ensures .starts))
+    (λ c κs. let at = c .before .before in
+    let (ready, own) = at .before .before .pre in
+    (block-words (ready .seated) (at .block-at .ensures), own-fits (ready .seated) (at .block-at .ensures) own))
+    -- the copies are copied out, and the written set
+    (λ c. omega (arith, lies (c .before .before .before .before)))
+    (λ c. search needs)
+    (λ c. omega (arith, lies (c .before .before .before .before)))
+    (λ c κs. omega (arith, lies (c .before .before .before .before)))
+    (λ c. omega (arith, lies (c .before .before .before .before .before)))
+    (λ c. omega (arith, lies (c .before .before .before .before .before)))
+    (λ c. omega (arith, lies (c .before .before .before .before .before .before)))
+    -- the cells are stored
+    (λ c κs. let formed = c .before .before .before .before .before .before .before .before .before .before .before .pre .0 .seated .formed in
+    omega (arith, formed .few, formed .fits))
+    -- the block is settled
+    (λ c. omega (arith, lies (stored-from c)))
+    (λ c. omega arith)
+    (λ c. search needs)
+    (λ c. let at = stored-from c in
+    omega (arith, lies at, at .block-at .ensures .ends, at .block-at .ensures .starts, stored-long c))
+    (λ c κs. let at = stored-from (c .before .before) in
+    block-of (at .before .before .pre .0 .seated) (at .block-at .ensures) _ (stored-long (c .before .before)))
+    (λ c. search needs)
+    (λ c. let at = stored-from (c .before .before .before .before .before) in
+    let (ready, own) = at .before .before .pre in
+    let stored = c .before .before .before .before .before .before .before in
+    let copied = stored .before .before .before .before .before in
+    commits (ready .seated) (at .block-at .ensures) own (copied .before .before .stamps .ensures) (copied .copy-out .ensures)
+    (stored .store .ensures) (c .before .before .settle .ensures)))

@@ -1,0 +1,95 @@
+-- A commit over a whole register: with the numbers stamped, the written cells stored and the block settled, the words hold the
+-- rules' register.
+use Prim.Native.Nat.{ℕ, _+_, _*_, _-_, _≤_, _<_}
+use native.Mathlib.Omega.{arith}
+use mathlib.Core.Path.{_≡_, sym, ap, ap₂, _∙_}
+use mathlib.Core.Bool.{_&&_}
+use mathlib.Core.List.{List}
+use lib.Dec.{ltb}
+use lib.ListN.{getD, take, drop}
+use borrow.Rule.Slice.PartMut.{putMid}
+use Rattle.rules.specs.Register.{Register, withHandler, idle}
+use Rattle.rules.specs.Figure.{stamped, committing}
+use Rattle.layout.specs.Bits.{hasBit}
+use Rattle.layout.specs.Places.{cellsOf, handlersOf, size, handlerStart, handlerLong}
+use Rattle.layout.specs.View.{wordSetting, viewHandler, view, pourHandler, holding}
+use Rattle.layout.proofs.Holds.{Holds, holds-is}
+use Rattle.layout.proofs.Kept.{view-bounded}
+use Rattle.layout.proofs.OneHandler.{block-put}
+use Rattle.layout.proofs.Untouched.{splice}
+use Rattle.words.specs.Rows.{RowOf}
+use Rattle.block.specs.Blocks.{rowTable, stampedBy}
+use Rattle.turns.specs.Spans.{Spans}
+use Rattle.turns.specs.Takes.{Seated, Commits}
+use Rattle.turns.specs.Stores.{ownNumbers, storedBelow, Stores}
+use Rattle.turns.proofs.Lent.{lent-back, seated-holds, block-says}
+use Rattle.turns.proofs.Said.{written-said, copy-said}
+use Rattle.turns.proofs.Storing.{commit-is}
+use Rattle.turns.proofs.Trying.{own-is, written-is, copies-are, stamps-are}
+
+-- A row of a table is one of any table that is the same.
+same-row : {m : ℕ} {table other : ℕ → ℕ} {row : List ℕ} → RowOf m table row → ((y : ℕ) → y < m → table y ≡ other y) → RowOf m other row
+same-row of same = record { size = of .size; inside = λ y h. of .inside y h ∙ same y h; beyond = of .beyond }
+
+module _ {words : List ℕ} {m i : ℕ} (seated : Seated words m i) {from to : ℕ} (span : Spans (handlerStart m i) (handlerLong m) from to) where
+  -- The number of handlers.
+  abbrev n : ℕ
+  n = handlersOf words
+
+  -- The register that the words say, by the number of cells that is known.
+  abbrev r : Register ℕ
+  r = view m n words
+
+  -- The block that is lent.
+  abbrev lent : List ℕ
+  lent = take (to - from) (drop from words)
+
+  -- A row of the cells' own numbers has none above 65,535.
+  pub own-fits : {own : List ℕ} → RowOf m (ownNumbers words) own → (y : ℕ) → y < m → getD own y 0 ≤ 65535
+  own-fits of y h =
+      let inside : y < cellsOf words = omega (arith, seated .formed .cells) in
+      rw (of .inside y h) (view-bounded words (seated .formed .wellFormed) .cells y inside y inside)
+
+  -- The numbers that were stamped are the rules'.
+  numbers-are : {own numbers : List ℕ} → RowOf m (ownNumbers words) own → RowOf m (stampedBy (viewHandler m lent) (rowTable own)) numbers
+      → rowTable numbers ≡ stamped r (r .handlers i)
+  unfolding stamped stampedBy
+  numbers-are {own} of-own stamps = stamps-are m n words i (same-row stamps (λ y h. ap₂ (λ g table. stampedBy g table y) (block-says seated span) owned))
+    where
+      owned : rowTable own ≡ (λ c. r .cells c .numbers c)
+      owned = own-is m n words (same-row of-own (λ y h. ap (λ k. view k n words .cells y .numbers y) (sym (seated .formed .cells))))
+
+  -- The copies that were taken out are the handler's.
+  copied : {copies : List ℕ} → RowOf m (λ y. getD words (from + 3 + 2 * m + y) 0) copies → rowTable copies ≡ r .handlers i .copies
+  copied of = copies-are m n words i (same-row of (λ y h.
+      copy-said seated (span .starts) y h ∙ ap (λ k. view k n words .handlers i .copies y) (sym (seated .formed .cells))))
+
+  -- The third word of the block is the written set.
+  written : (c : ℕ) → ltb c m && hasBit (getD words (from + 2) 0) c ≡ r .handlers i .writtenSet c
+  written = written-is m n words i (getD words (from + 2) 0) (λ c h.
+      written-said seated (span .starts) c h ∙ ap (λ k. view k n words .handlers i .writtenSet c) (sym (seated .formed .cells)))
+
+  -- What is left is the rules' register after a commit.
+  pub commits : {own numbers copies stored last : List ℕ} → RowOf m (ownNumbers words) own
+      → RowOf m (stampedBy (viewHandler m lent) (rowTable own)) numbers
+      → RowOf m (λ y. getD words (from + 3 + 2 * m + y) 0) copies
+      → Stores m m (getD words (from + 2) 0) (rowTable copies) (rowTable numbers) words stored
+      → last ≡ pourHandler m (idle (wordSetting m) (rowTable numbers))
+      → Commits words i (putMid from (to - from) stored last)
+  commits {numbers = numbers} {copies = copies} {stored = stored} of-own stamps taken stores settled =
+      lent-back span stored settled ∙ holds-is settles ∙ ap (λ q. holding words m n q) register ∙ ap held (seated .formed .cells)
+    where
+      storing : Register ℕ
+      storing = storedBelow m (getD words (from + 2) 0) (rowTable copies) (rowTable numbers) r
+
+      settles : Holds m n (withHandler storing i (idle (wordSetting m) (rowTable numbers))) (drop (size m n) words)
+          (splice (handlerStart m i) (handlerLong m) (pourHandler m (idle (wordSetting m) (rowTable numbers))) stored)
+      settles = block-put (stores .holds n r (drop (size m n) words) (seated-holds seated)) i _ (seated .handler)
+
+      register : withHandler storing i (idle (wordSetting m) (rowTable numbers)) ≡ committing (wordSetting m) r i (r .handlers i)
+      register =
+          ap₂ (λ a b. withHandler (storedBelow m (getD words (from + 2) 0) a b r) i (idle (wordSetting m) b)) (copied taken) (numbers-are of-own stamps)
+          ∙ commit-is m r i (getD words (from + 2) 0) written
+
+      held : ℕ → List ℕ
+      held k = let q = view k n words in holding words k n (committing (wordSetting k) q i (q .handlers i))
