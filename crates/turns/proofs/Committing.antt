@@ -3,13 +3,15 @@
 use Prim.Native.Nat.{ℕ, _+_, _*_, _-_, _≤_, _<_}
 use native.Mathlib.Omega.{arith}
 use mathlib.Core.Path.{_≡_, sym, ap, ap₂, _∙_}
-use mathlib.Core.Bool.{_&&_}
+use mathlib.Core.Bool.{false, _&&_}
 use mathlib.Core.List.{List}
 use lib.Dec.{ltb}
 use lib.ListN.{getD, take, drop}
 use borrow.Rule.Slice.PartMut.{putMid}
+use Rattle.rules.specs.Codes.{try}
+use Rattle.rules.specs.Replies.{committed}
 use Rattle.rules.specs.Register.{Register, withHandler, idle}
-use Rattle.rules.specs.Figure.{stamped, committing}
+use Rattle.rules.specs.Figure.{stamped, isOvertaken, isSpent, committing}
 use Rattle.layout.specs.Bits.{hasBit}
 use Rattle.layout.specs.Places.{cellsOf, handlersOf, size, handlerStart, handlerLong}
 use Rattle.layout.specs.View.{wordSetting, viewHandler, view, pourHandler, holding}
@@ -18,14 +20,14 @@ use Rattle.layout.proofs.Kept.{view-bounded}
 use Rattle.layout.proofs.OneHandler.{block-put}
 use Rattle.layout.proofs.Untouched.{splice}
 use Rattle.words.specs.Rows.{RowOf}
-use Rattle.block.specs.Blocks.{rowTable, stampedBy}
+use Rattle.block.specs.Blocks.{rowTable, overtakenBy, spentBy, stampedBy}
 use Rattle.turns.specs.Spans.{Spans}
-use Rattle.turns.specs.Takes.{Seated, Commits}
+use Rattle.turns.specs.Takes.{viewed, Seated, Takes, Commits}
 use Rattle.turns.specs.Stores.{ownNumbers, storedBelow, Stores}
 use Rattle.turns.proofs.Lent.{lent-back, seated-holds, block-says}
 use Rattle.turns.proofs.Said.{written-said, copy-said}
 use Rattle.turns.proofs.Storing.{commit-is}
-use Rattle.turns.proofs.Trying.{own-is, written-is, copies-are, stamps-are}
+use Rattle.turns.proofs.Trying.{try-commits, own-is, written-is, copies-are, stamps-are}
 
 -- A row of a table is one of any table that is the same.
 same-row : {m : ℕ} {table other : ℕ → ℕ} {row : List ℕ} → RowOf m table row → ((y : ℕ) → y < m → table y ≡ other y) → RowOf m other row
@@ -50,14 +52,32 @@ module _ {words : List ℕ} {m i : ℕ} (seated : Seated words m i) {from to : �
       let inside : y < cellsOf words = omega (arith, seated .formed .cells) in
       rw (of .inside y h) (view-bounded words (seated .formed .wellFormed) .cells y inside y inside)
 
+  -- A row of the cells' own numbers stands for them.
+  owned : {own : List ℕ} → RowOf m (ownNumbers words) own → rowTable own ≡ (λ c. r .cells c .numbers c)
+  owned of = own-is m n words (same-row of (λ y h. ap (λ k. view k n words .cells y .numbers y) (sym (seated .formed .cells))))
+
+  -- What the block and the row say of reads that are overtaken is what the rules say.
+  pub overtaken-told : {own : List ℕ} → RowOf m (ownNumbers words) own
+      → overtakenBy m (viewHandler m lent) (rowTable own) ≡ isOvertaken (wordSetting (cellsOf words)) (viewed words) (viewed words .handlers i)
+  unfolding overtakenBy isOvertaken
+  overtaken-told of =
+      ap₂ (overtakenBy m) (block-says seated span) (owned of)
+      ∙ ap (λ k. isOvertaken (wordSetting k) (view k n words) (view k n words .handlers i)) (seated .formed .cells)
+
+  -- What they say of numbers that are spent is what the rules say.
+  pub spent-told : {own : List ℕ} → RowOf m (ownNumbers words) own
+      → spentBy m (viewHandler m lent) (rowTable own) ≡ isSpent (wordSetting (cellsOf words)) (viewed words) (viewed words .handlers i)
+  unfolding spentBy isSpent
+  spent-told of =
+      ap₂ (spentBy m) (block-says seated span) (owned of)
+      ∙ ap (λ k. isSpent (wordSetting k) (view k n words) (view k n words .handlers i)) (seated .formed .cells)
+
   -- The numbers that were stamped are the rules'.
   numbers-are : {own numbers : List ℕ} → RowOf m (ownNumbers words) own → RowOf m (stampedBy (viewHandler m lent) (rowTable own)) numbers
       → rowTable numbers ≡ stamped r (r .handlers i)
   unfolding stamped stampedBy
-  numbers-are {own} of-own stamps = stamps-are m n words i (same-row stamps (λ y h. ap₂ (λ g table. stampedBy g table y) (block-says seated span) owned))
-    where
-      owned : rowTable own ≡ (λ c. r .cells c .numbers c)
-      owned = own-is m n words (same-row of-own (λ y h. ap (λ k. view k n words .cells y .numbers y) (sym (seated .formed .cells))))
+  numbers-are of-own stamps =
+      stamps-are m n words i (same-row stamps (λ y h. ap₂ (λ g table. stampedBy g table y) (block-says seated span) (owned of-own)))
 
   -- The copies that were taken out are the handler's.
   copied : {copies : List ℕ} → RowOf m (λ y. getD words (from + 3 + 2 * m + y) 0) copies → rowTable copies ≡ r .handlers i .copies
@@ -93,3 +113,14 @@ module _ {words : List ℕ} {m i : ℕ} (seated : Seated words m i) {from to : �
 
       held : ℕ → List ℕ
       held k = let q = view k n words in holding words k n (committing (wordSetting k) q i (q .handlers i))
+
+-- A try that goes through is taken by a commit.
+pub commit-takes : {words : List ℕ} {i : ℕ} {after : List ℕ} → let r = viewed words in
+    isOvertaken (wordSetting (cellsOf words)) r (r .handlers i) ≡ false → isSpent (wordSetting (cellsOf words)) r (r .handlers i) ≡ false
+    → Commits words i after → Takes words i try 0 committed after
+commit-takes {words} {i} current room left =
+    let goes = try-commits (cellsOf words) (viewed words) i 0 current room in
+    record {
+      replied = ap (λ q. q .outcome) (sym goes);
+      left = left ∙ ap (λ q. holding words (cellsOf words) (handlersOf words) (q .after)) (sym goes);
+    }

@@ -1,161 +1,118 @@
+-- `turns::tries::attempt` meets its contract: abort 2 first, then abort 3, and else the commit.
+use Prim.Native.Nat.{ℕ, _+_, _-_, _≤_}
+use mathlib.Core.Path.{_≡_, refl, sym, _∙_}
+use mathlib.Core.Bool.{Bool, false}
+use native.Mathlib.Omega.{arith}
+use lib.ListN.{length, take, drop}
 use borrow.Author.Needs.{needs}
+use Rattle.rules.specs.Register.{Setting, Handler, Register, idle}
+use Rattle.rules.specs.Figure.{isOvertaken, isSpent}
+use Rattle.layout.specs.Places.{cellsOf, handlerLong}
+use Rattle.layout.specs.View.{wordSetting}
+use Rattle.block.specs.Blocks.{Block}
+use Rattle.turns.specs.Takes.{viewed}
+use Rattle.turns.proofs.Lent.{block-lies, block-words, lent-takes}
+use Rattle.turns.proofs.Trying.{try-overtaken, try-spent}
+use Rattle.turns.proofs.Committing.{overtaken-told, spent-told, commit-takes}
 use Rattle.turns.proofs.tries.attempt.Statement.{statement}
 use Rattle.turns.proofs.tries.attempt.Tie as tie
-use Rattle.turns.proofs.tries.attempt.Reads as reads
-use Rattle.turns.proofs.tries.attempt.Lts as lts
-use Rattle.block.proofs.overtaken.Reads as overtaken-reads
-use Rattle.block.proofs.spent.Reads as spent-reads
-use Rattle.block.proofs.rest.Reads as rest-reads
-use Rattle.turns.proofs.places.block_at.Reads as block-at-reads
-use Rattle.turns.proofs.store.own_numbers.Reads as own-numbers-reads
-use Rattle.turns.proofs.tries.commit.Reads as commit-reads
 
--- src/tries.rt:33:15
-own-numbers-requires : tie.Need-own-numbers-requires
-own-numbers-requires c κs = search needs
+-- The handler's block lies in the words.
+lies : (c : tie.After-block-at) → let entry = c .before .before .before .before in
+    let from = c .block-at .result .start in
+    (from + handlerLong (entry .args .m) ≤ length (entry .args .words .now)) × (from ≤ 2642) × (from ≤ c .block-at .result .end)
+    × (c .block-at .result .end ≤ length (entry .args .words .now))
+lies c = omega (arith, block-lies (c .before .before .before .before .pre .seated) (c .block-at .ensures))
 
--- src/tries.rt:34:9
-block-at-requires : tie.Need-block-at-requires
-block-at-requires c κs = search needs
+-- The place where the block was found, from where its reads were looked at.
+abbrev found : tie.After-overtaken → tie.After-block-at
+found c = c .before .before .before .before
 
--- src/tries.rt:37:25
-mul-overtaken : tie.Need-mul-overtaken
-mul-overtaken c = ?
+-- The place where its reads were looked at, from where its writes were.
+abbrev read : tie.After-spent → tie.After-overtaken
+read c = c .before .before .before .before .before
 
--- src/tries.rt:37:25
-sub-overtaken : tie.Need-sub-overtaken
-sub-overtaken c = search needs
+-- The rules' answer for the handler of the words at entry.
+abbrev ruled : (Setting ℕ → Register ℕ → Handler ℕ → Bool) → tie.After-block-at → Bool
+ruled test c =
+    let args = c .before .before .before .before .args in
+    let r = viewed (args .words .now) in
+    test (wordSetting (cellsOf (args .words .now))) r (r .handlers (args .i))
 
--- src/tries.rt:37:25
-part-overtaken-start : tie.Need-part-overtaken-start
-part-overtaken-start c = search needs
+-- What the block answered of its reads is what the rules say.
+read-answer : (c : tie.After-overtaken) → c .overtaken .result ≡ ruled isOvertaken (found c)
+read-answer c =
+    let at = found c in
+    c .overtaken .ensures ∙ overtaken-told (at .before .before .before .before .pre .seated) (at .block-at .ensures) (at .before .own-numbers .ensures)
 
--- src/tries.rt:37:25
-part-overtaken-end : tie.Need-part-overtaken-end
-part-overtaken-end c = ?
+-- What the block answered of its writes is what the rules say.
+write-answer : (c : tie.After-spent) → c .spent .result ≡ ruled isSpent (found (read c))
+write-answer c =
+    let at = found (read c) in
+    c .spent .ensures ∙ spent-told (at .before .before .before .before .pre .seated) (at .block-at .ensures) (at .before .own-numbers .ensures)
 
--- src/tries.rt:37:8
-overtaken-requires : tie.Need-overtaken-requires
-overtaken-requires c κs = search needs
+-- The reads stand, where the writes are looked at.
+current : (c : tie.After-spent) → ruled isOvertaken (found (read c)) ≡ false
+current c = sym (read-answer (read c)) ∙ c .before .before .before .before .if1 .left
 
--- src/tries.rt:38:21
-mul-rest : tie.Need-mul-rest
-mul-rest c = ?
+-- What is lent is the words of a block.
+block : (c : tie.After-block-at) → let args = c .before .before .before .before .args in
+    Block (args .m) (take (c .block-at .result .end - c .block-at .result .start) (drop (c .block-at .result .start) (args .words .now)))
+block c = block-words (c .before .before .before .before .pre .seated) (c .block-at .ensures)
 
--- src/tries.rt:38:21
-sub-rest : tie.Need-sub-rest
-sub-rest c = search needs
-
--- src/tries.rt:38:21
-part-rest-start : tie.Need-part-rest-start
-part-rest-start c = search needs
-
--- src/tries.rt:38:21
-part-rest-end : tie.Need-part-rest-end
-part-rest-end c = ?
-
--- src/tries.rt:38:9
-rest-requires : tie.Need-rest-requires
-rest-requires c κs = search needs
-
--- src/tries.rt:39:9
-same-length : tie.Need-same-length
-same-length c = search needs
-
--- src/tries.rt:39:9
+-- Abort 2.
 returns : tie.Need-returns
-returns c = ?
+returns c =
+    let then = c .before .before .before .before in
+    let at = found (then .before) in
+    lent-takes (at .before .before .before .before .pre .seated) (at .block-at .ensures) (λ k h. idle (wordSetting k) (h .numbers))
+    (try-overtaken _ _ _ _ (sym (read-answer (then .before)) ∙ then .if1 .taken)) refl (c .before .before .rest .ensures)
 
--- src/tries.rt:41:21
-mul-spent : tie.Need-mul-spent
-mul-spent c = ?
-
--- src/tries.rt:41:21
-sub-spent : tie.Need-sub-spent
-sub-spent c = search needs
-
--- src/tries.rt:41:21
-part-spent-start : tie.Need-part-spent-start
-part-spent-start c = search needs
-
--- src/tries.rt:41:21
-part-spent-end : tie.Need-part-spent-end
-part-spent-end c = ?
-
--- src/tries.rt:41:8
-spent-requires : tie.Need-spent-requires
-spent-requires c κs = search needs
-
--- src/tries.rt:42:21
-mul-rest-2 : tie.Need-mul-rest-2
-mul-rest-2 c = ?
-
--- src/tries.rt:42:21
-sub-rest-2 : tie.Need-sub-rest-2
-sub-rest-2 c = search needs
-
--- src/tries.rt:42:21
-part-rest-start-2 : tie.Need-part-rest-start-2
-part-rest-start-2 c = search needs
-
--- src/tries.rt:42:21
-part-rest-end-2 : tie.Need-part-rest-end-2
-part-rest-end-2 c = ?
-
--- src/tries.rt:42:9
-rest-requires-2 : tie.Need-rest-requires-2
-rest-requires-2 c κs = search needs
-
--- src/tries.rt:43:9
-same-length-2 : tie.Need-same-length-2
-same-length-2 c = search needs
-
--- src/tries.rt:43:9
+-- Abort 3.
 returns-2 : tie.Need-returns-2
-returns-2 c = ?
-
--- src/tries.rt:45:5
-commit-requires : tie.Need-commit-requires
-commit-requires c κs = search needs
-
--- src/tries.rt:29:1
-same-length-3 : tie.Need-same-length-3
-same-length-3 c = search needs
-
--- src/tries.rt:29:1
-returns-3 : tie.Need-returns-3
-returns-3 c = ?
+returns-2 c =
+    let then = c .before .before .before .before in
+    let at = found (read (then .before)) in
+    lent-takes (at .before .before .before .before .pre .seated) (at .block-at .ensures) (λ k h. idle (wordSetting k) (h .numbers))
+    (try-spent _ _ _ _ (current (then .before)) (sym (write-answer (then .before)) ∙ then .if2 .taken)) refl (c .before .before .rest2 .ensures)
 
 pub attempt-spec : {M : Type 1} → statement M
 attempt-spec =
     tie.close
     (tie.spec
-    own-numbers-requires
-    block-at-requires
-    mul-overtaken
-    sub-overtaken
-    part-overtaken-start
-    part-overtaken-end
-    overtaken-requires
-    mul-rest
-    sub-rest
-    part-rest-start
-    part-rest-end
-    rest-requires
-    same-length
+    (λ c κs. search needs)
+    (λ c κs. search needs)
+    -- the block is looked at
+    (λ c. omega (arith, lies c))
+    (λ c. omega (arith, lies c))
+    (λ c. search needs)
+    (λ c. omega (arith, lies (c .before)))
+    (λ c κs. block (c .before .before .before))
+    -- abort 2
+    (λ c. omega (arith, lies (found (c .before))))
+    (λ c. omega (arith, lies (found (c .before))))
+    (λ c. search needs)
+    (λ c. omega (arith, lies (found (c .before))))
+    (λ c κs. block (found (c .before .before)))
+    (λ c. search needs)
     returns
-    mul-spent
-    sub-spent
-    part-spent-start
-    part-spent-end
-    spent-requires
-    mul-rest-2
-    sub-rest-2
-    part-rest-start-2
-    part-rest-end-2
-    rest-requires-2
-    same-length-2
+    -- the block is looked at again
+    (λ c. omega (arith, lies (found (c .before))))
+    (λ c. omega (arith, lies (found (c .before))))
+    (λ c. search needs)
+    (λ c. omega (arith, lies (found (c .before .before))))
+    (λ c κs. block (found (c .before .before .before .before)))
+    -- abort 3
+    (λ c. omega (arith, lies (found (read (c .before)))))
+    (λ c. omega (arith, lies (found (read (c .before)))))
+    (λ c. search needs)
+    (λ c. omega (arith, lies (found (read (c .before)))))
+    (λ c κs. block (found (read (c .before .before))))
+    (λ c. search needs)
     returns-2
-    commit-requires
-    same-length-3
-    returns-3)
+    -- the commit
+    (λ c κs. let at = found (read (c .before .before .before)) in
+    (at .before .before .before .before .pre, at .before .own-numbers .ensures))
+    (λ c. search needs)
+    (λ c. let else = c .before .before .before .before .before in
+    commit-takes (current (else .before)) (sym (write-answer (else .before)) ∙ else .if2 .left) (c .before .before .commit .ensures)))
