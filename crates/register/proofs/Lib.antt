@@ -1,3 +1,5 @@
 -- Laws of the register.
+pub mod Codes
+pub mod Refusing
 pub mod Opening
 pub mod Stepping
