@@ -51,11 +51,17 @@ module _ {W : Type 0} (S : Setting W) (n : ℕ) (wellFormed : Bool) (r : Registe
   pub refused-unchanged : (refusal : Refusal) → turn S n wellFormed r i code v .reply ≡ Reply.refused refusal → turn S n wellFormed r i code v .after ≡ r
   refused-unchanged refusal e = ap (λ t. t .after) (given-turn refusal (turn-given refusal .0 e))
 
+  -- What holds of every refusal with a number that is given, and of every step that is free and taken, holds of the turn.
+  pub turn-cases : (Q : Turn W → Type 0)
+      → ((refusal : Refusal) → Given refusal (asked S n wellFormed r i code) → Q (refusedTurn r refusal))
+      → ((s : Step) → Free (asked S n wellFormed r i code) s → Q (takenTurn S r i code v s)) → Q (turn S n wellFormed r i code v)
+  turn-cases Q isRefused isTaken = decides (verdict (asked S n wellFormed r i code))
+    where
+      decides : Verdict (asked S n wellFormed r i code) → Q (turn S n wellFormed r i code v)
+      decides (inl (refusal, given)) = rw (given-turn refusal given) (isRefused refusal given)
+      decides (inr (s, free)) = rw (free-turn s free) (isTaken s free)
+
   -- What holds of a register, and of what every step that is free leaves, holds of what a turn leaves.
   pub turn-leaves : (P : Register W → Type 0) → P r
       → ((s : Step) → Free (asked S n wellFormed r i code) s → P (step S r i s v .after)) → P (turn S n wellFormed r i code v .after)
-  turn-leaves P stays steps = decides (verdict (asked S n wellFormed r i code))
-    where
-      decides : Verdict (asked S n wellFormed r i code) → P (turn S n wellFormed r i code v .after)
-      decides (inl (refusal, g)) = rw (given-turn refusal g) stays
-      decides (inr (s, free)) = rw (free-turn s free) (steps s free)
+  turn-leaves P stays steps = turn-cases (λ t. P (t .after)) (λ refusal given. stays) steps
