@@ -25,5 +25,5 @@ pub mod ExactAborts
 pub mod ThirdDemand
 pub mod AllCases
 pub mod CaseHistories
+pub mod CasesComputed
 pub mod CasesDemanded
-pub mod CasesOfPasts

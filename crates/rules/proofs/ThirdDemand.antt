@@ -5,7 +5,7 @@ use mathlib.Core.Path.{_≡_, refl, sym, _∙_, subst}
 use mathlib.Core.Bool.{true, false, _||_}
 use mathlib.Core.List.{List, [], _∷_}
 use Rattle.rules.specs.Codes.{Step, begin, try, read, write, Kind, known, unknown, kindOf}
-use Rattle.rules.specs.Replies.{value, aborted, Refusal, Reply}
+use Rattle.rules.specs.Replies.{Refusal, Reply}
 use Rattle.rules.specs.Register.{Setting, Handler, Register, withHandler}
 use Rattle.rules.specs.Given.{Within, phaseFor, Free}
 use Rattle.rules.specs.Figure.{begun, wrote, isOvertaken, aborting, committing, reading, trying, step}

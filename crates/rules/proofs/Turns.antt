@@ -4,7 +4,7 @@ use native.Mathlib.Omega.{arith}
 use mathlib.Core.Path.{_≡_, sym, ap, _∙_, subst}
 use mathlib.Core.Bool.{Bool}
 use mathlib.Core.Logic.{_↔_, inl, inr}
-use Rattle.rules.specs.Codes.{Step, known}
+use Rattle.rules.specs.Codes.{Step}
 use Rattle.rules.specs.Replies.{Refusal, Report, Reply, reported}
 use Rattle.rules.specs.Register.{Setting, Register}
 use Rattle.rules.specs.Given.{Given, Free}
