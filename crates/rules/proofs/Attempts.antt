@@ -17,17 +17,21 @@ use Rattle.rules.proofs.Properties.{commit-no-abort, value-no-abort}
 -- ── Tests of a set's cells ────────────────────────────────────────────
 
 -- Some cell below m is in the set and passes: there is one.
-pub some-in-set : (m : ℕ) (set test : ℕ → Bool) → (someBelow m (λ y. set y && test y) ≡ true) ↔ ((y : ℕ) × (y < m) × (set y ≡ true) × (test y ≡ true))
+pub some-in-set : (m : ℕ) (set test : ℕ → Bool)
+    → (someBelow m (λ y. set y && test y) ≡ true) ↔ ((y : ℕ) × (y < m) × (set y ≡ true) × (test y ≡ true))
 some-in-set m set test = (
   λ e. let k = some-true m _ e in (k .0, k .1, and-left (set (k .0)) _ (k .2), and-right (set (k .0)) _ (k .2)),
   λ k. some-from m _ (k .0) (k .1) (and-both (set (k .0)) _ (k .2) (k .3)),
 )
 
 -- No cell below m is in the set and passes: each cell of the set fails.
-pub none-in-set : (m : ℕ) (set test : ℕ → Bool) → (someBelow m (λ y. set y && test y) ≡ false) ↔ ((y : ℕ) → y < m → set y ≡ true → test y ≡ false)
+pub none-in-set : (m : ℕ) (set test : ℕ → Bool)
+    → (someBelow m (λ y. set y && test y) ≡ false) ↔ ((y : ℕ) → y < m → set y ≡ true → test y ≡ false)
 none-in-set m set test = (
   λ e y l s. by (test y) (λ t. both-ways (some-in-set m set test .1 (y, l, s, t)) e) (λ t. t),
-  λ h. by (someBelow m (λ y. set y && test y)) (λ e. let k = some-in-set m set test .0 e in both-ways (k .3) (h (k .0) (k .1) (k .2))) (λ e. e),
+  λ h. by (someBelow m (λ y. set y && test y))
+      (λ e. let k = some-in-set m set test .0 e in both-ways (k .3) (h (k .0) (k .1) (k .2)))
+      (λ e. e),
 )
 
 -- ── Statements about every cell ───────────────────────────────────────
@@ -148,7 +152,7 @@ module _ {W : Type 0} (S : Setting W) where
         λ u. ap aborted (one-reason r (r .handlers i) other reason t u),
       ))
       (λ current roomy. (
-        λ e. absurd (commit-no-abort S reason e),
+        λ e. absurd (commit-no-abort reason e),
         λ t. absurd (no-reason r (r .handlers i) current roomy reason t),
       ))
     where
@@ -162,7 +166,7 @@ module _ {W : Type 0} (S : Setting W) where
   try-commits r i v =
       try-cases r i v (λ outcome. (outcome ≡ committed) ↔ (Current S r (r .handlers i) × Roomy S r (r .handlers i)))
       (λ reason t. (
-        λ e. absurd (commit-no-abort S reason (sym e)),
+        λ e. absurd (commit-no-abort reason (sym e)),
         λ g. absurd (no-reason r (r .handlers i) (g .0) (g .1) reason t),
       ))
       (λ current roomy. (λ e. (current, roomy), λ g. refl))
@@ -186,14 +190,15 @@ module _ {W : Type 0} (S : Setting W) where
 
   -- A first read of X is aborted exactly when X depends on a later version of a cell read than the transaction holds, X itself
   -- having joined the read set at its own number.
-  pub first-read-aborted : (r : Register W) (i x : ℕ) (v : W) → r .handlers i .readSet x ≡ false → r .handlers i .writtenSet x ≡ false
+  pub first-read-aborted : (r : Register W) (i x : ℕ) (v : W)
+      → r .handlers i .readSet x ≡ false → r .handlers i .writtenSet x ≡ false
       → (step S r i (read x) v .outcome ≡ aborted torn) ↔ Torn S (joined (r .handlers i) x (r .cells x)) (r .cells x)
   unfolding step
   first-read-aborted r i x v unread unwritten =
       reading-cases S r i (r .handlers i) (λ result. (result .outcome ≡ aborted torn) ↔ Torn S joins (r .cells x)) x
       (λ copied. both-ways copied (rw (unread, unwritten)))
       (λ first isTorn. (λ e. means .0 isTorn, λ t. refl))
-      (λ first isTaken. (λ e. absurd (value-no-abort S _ torn e), λ t. both-ways (means .1 t) isTaken))
+      (λ first isTaken. (λ e. absurd (value-no-abort _ torn e), λ t. both-ways (means .1 t) isTaken))
     where
       joins : Handler W
       joins = joined (r .handlers i) x (r .cells x)

@@ -1,5 +1,5 @@
--- Histories of cases, as they are computed by the rules and by the judge: in each of them handler 0 makes a first read at the end,
--- of a register of two cells and four handlers.
+-- Histories of cases, as they are computed by the rules and by the judge: in each of them handler 0 makes a first read at the
+-- end, of a register of two cells and four handlers.
 use Prim.Native.Nat.{ℕ, _+_}
 use mathlib.Core.Path.{_≡_}
 use mathlib.Core.Bool.{Bool, true, not, _&&_, _||_}
@@ -13,8 +13,8 @@ use Rattle.rules.specs.Checks.{firstHit, stepChecks}
 use Rattle.rules.specs.Figure.{joined, taken, wrote, shown, stamped, stored, begun, isTorn, isOvertaken, isSpent, aborting}
 use Rattle.rules.specs.Figure.{committing, unlessAborted, readChecks, tryChecks, firstRead, reading, trying, step}
 use Rattle.rules.specs.Turn.{refusalOf, turned, turn}
-use Rattle.rules.specs.History.{Commit, History, someLook, hasRead, hasWritten, writerAmong, writer, noHistory, doing, readDeed}
-use Rattle.rules.specs.History.{noteOk, noteValue, ended, noteCommit, noteAbort, note, noteReply}
+use Rattle.rules.specs.History.{Commit, History, someLook, hasRead, hasWritten, writerAmong, writer, noHistory, doing}
+use Rattle.rules.specs.History.{readDeed, noteOk, noteValue, ended, noteCommit, noteAbort, note, noteReply}
 use Rattle.rules.specs.Past.{hasReadFrom, inPast, upTo, later, outdated, tears}
 use Rattle.rules.specs.Replay.{after, replay}
 use Rattle.rules.specs.Demand.{Ask, State, start, moved, run}

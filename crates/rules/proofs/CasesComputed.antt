@@ -37,7 +37,8 @@ unfolding isFirst reached answerTo k8
 k8-answered = record { first = refl; reply = refl; judged = refl }
 
 -- The read that aborted its transaction is not among the deeds.
-pub k8-aborts : reached (k8 ++ (reads 0 1 ∷ [])) .history .aborts ≡ record { handler = 0; deeds = look 0 0 0 ∷ []; stood = 2 } ∷ []
+pub k8-aborts : reached (k8 ++ (reads 0 1 ∷ [])) .history .aborts
+    ≡ record { handler = 0; deeds = look 0 0 0 ∷ []; stood = 2 } ∷ []
 unfolding reached k8
 k8-aborts = refl
 
@@ -49,7 +50,8 @@ unfolding overtakes
 k9 = overtakes ++ (begins 1 ∷ writes 1 1 6 ∷ tries 1 ∷ [])
 
 -- Handler 1's second commit drew on nobody's.
-pub k9-commits : commitsAfter k9 ≡ record { handler = 1; deeds = set 1 6 ∷ [] } ∷ record { handler = 1; deeds = set 0 5 ∷ [] } ∷ []
+pub k9-commits : commitsAfter k9
+    ≡ record { handler = 1; deeds = set 1 6 ∷ [] } ∷ record { handler = 1; deeds = set 0 5 ∷ [] } ∷ []
 unfolding reached k9
 k9-commits = refl
 

@@ -1,5 +1,5 @@
--- The third demand instantiated on the cases that are computed: what is answered abort 1 tears, what is answered with a value does
--- not; K10's aborted transaction has read what its past alone leaves; and K11 is where ours differs from the source's legality.
+-- The third demand instantiated on the cases that are computed: what is answered abort 1 tears, and what is answered with a value
+-- does not; K10's aborted transaction has read what its past alone leaves; K11 is where ours differs from the source's legality.
 use Prim.Native.Nat.{ℕ, zero, suc, _+_, _<_}
 use native.Mathlib.Omega.{arith}
 use mathlib.Core.Path.{_≡_, refl, sym, ap, _∙_, subst}
@@ -22,8 +22,8 @@ use Rattle.rules.proofs.Properties.{value-no-abort}
 use Rattle.rules.proofs.ExactAborts.{outcomeOf}
 use Rattle.rules.proofs.ThirdDemand.{third-demand, history-tells}
 use Rattle.rules.proofs.CaseHistories.{two, reached, commitsAfter, replyTo, isFirst, Answered}
-use Rattle.rules.proofs.CasesComputed.{k8, k8-answered, k9, k9-answered, k10, k10-answered, k10-read, k10-open, k10-overtaken}
-use Rattle.rules.proofs.CasesComputed.{k10-tried, k10-commits, k10-aborted, k10-history, k11, k11-answered, k11-first}
+use Rattle.rules.proofs.CasesComputed.{k8, k8-answered, k9, k9-answered, k10, k10-answered, k10-read, k10-open}
+use Rattle.rules.proofs.CasesComputed.{k10-overtaken, k10-tried, k10-commits, k10-aborted, k10-history, k11, k11-answered, k11-first}
 use Rattle.rules.proofs.CasesComputed.{k11-second, readOnly, readOnly-answered, pastOfPast, pastOfPast-answered}
 use Rattle.rules.proofs.CasesComputed.{abortedRead, abortedRead-answered, blind, blind-answered}
 
@@ -81,7 +81,8 @@ answered-torn steps x a = demanded steps x (a .first) .0 (a .reply)
 
 -- and one that is answered with a value does not.
 pub answered-value : (steps : List (Ask ℕ)) (x v : ℕ) → Answered steps x (value v) → TearsAfter steps x → ⊥
-answered-value steps x v a tears = value-no-abort two v torn (ap outcomeOf (sym (a .reply) ∙ demanded steps x (a .first) .1 tears))
+answered-value steps x v a tears =
+    value-no-abort v torn (ap outcomeOf (sym (a .reply) ∙ demanded steps x (a .first) .1 tears))
 
 -- ── The cases ─────────────────────────────────────────────────────────
 

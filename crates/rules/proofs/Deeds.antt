@@ -29,22 +29,26 @@ module _ {W : Type 0} where
   abbrev pub EachRead : (ℕ → ℕ → W → Type 0) → List (Deed W) → Type 0
   EachRead Q deeds = (y source : ℕ) (v : W) (sooner : List (Deed W)) → Stands deeds (look y source v) sooner → Q y source v
 
-  -- No deed, one fewer, or one more.
+  -- It holds of each read where there is no deed,
   pub each-none : (Q : ℕ → ℕ → W → Type 0) → EachRead Q []
   each-none Q y source v sooner q = elim q [ ]
 
+  -- where there is one deed fewer,
   pub each-older : {Q : ℕ → ℕ → W → Type 0} (d : Deed W) (deeds : List (Deed W)) → EachRead Q (d ∷ deeds) → EachRead Q deeds
   each-older d deeds each y source v sooner q = each y source v sooner (older q)
 
+  -- where there is one more read, of which it holds,
   pub each-look : {Q : ℕ → ℕ → W → Type 0} (x k : ℕ) (w : W) (deeds : List (Deed W)) → Q x k w → EachRead Q deeds
       → EachRead Q (look x k w ∷ deeds)
   each-look x k w deeds h each y source v sooner last = h
   each-look x k w deeds h each y source v sooner (older q) = each y source v sooner q
 
+  -- where there is one more read from a copy,
   pub each-again : {Q : ℕ → ℕ → W → Type 0} (x : ℕ) (w : W) (deeds : List (Deed W)) → EachRead Q deeds
       → EachRead Q (again x w ∷ deeds)
   each-again x w deeds each y source v sooner (older q) = each y source v sooner q
 
+  -- and where there is one more write.
   pub each-set : {Q : ℕ → ℕ → W → Type 0} (x : ℕ) (w : W) (deeds : List (Deed W)) → EachRead Q deeds
       → EachRead Q (set x w ∷ deeds)
   each-set x w deeds each y source v sooner (older q) = each y source v sooner q
@@ -209,14 +213,16 @@ module _ {W : Type 0} (S : Setting W) where
   abbrev pub Sound : List (Deed W) → Type 0
   Sound deeds = (d : Deed W) (sooner : List (Deed W)) → Stands deeds d sooner → SoundDeed sooner d
 
-  -- No deed, one more, or one fewer.
+  -- No deed is sound,
   pub sound-none : Sound []
   sound-none d sooner q = elim q [ ]
 
+  -- one more that is sound leaves all sound,
   pub sound-new : (d : Deed W) (deeds : List (Deed W)) → SoundDeed deeds d → Sound deeds → Sound (d ∷ deeds)
   sound-new d deeds h sound e sooner last = h
   sound-new d deeds h sound e sooner (older q) = sound e sooner q
 
+  -- and so does one fewer.
   sound-older : (d : Deed W) (deeds : List (Deed W)) → Sound (d ∷ deeds) → Sound deeds
   sound-older d deeds sound e sooner q = sound e sooner (older q)
 

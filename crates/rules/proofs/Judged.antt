@@ -29,12 +29,14 @@ reportedTo i code outcome = reported (record { handler = i; code = code; outcome
 
 module _ {W : Type 0} (S : Setting W) (n : ℕ) (h : History W) (i code : ℕ) where
   -- A step that is given a number by the history is refused with it.
-  judged-refused : (refusal : Refusal) → Given refusal (askedByHistory S n h i code) → judgement S n h i code ≡ Reply.refused refusal
+  judged-refused : (refusal : Refusal) → Given refusal (askedByHistory S n h i code)
+      → judgement S n h i code ≡ Reply.refused refusal
   unfolding judgement orAnswered
   judged-refused refusal given = rw (given-exactly (askedByHistory S n h i code) refusal .1 given)
 
   -- A step that is free by the history is answered.
-  pub judged-free : (s : Step) → Free (askedByHistory S n h i code) s → judgement S n h i code ≡ reportedTo i code (answer S h i s)
+  pub judged-free : (s : Step) → Free (askedByHistory S n h i code) s
+      → judgement S n h i code ≡ reportedTo i code (answer S h i s)
   unfolding judgement orAnswered
   judged-free s free = rw (free-exactly (askedByHistory S n h i code) .1 (s, free), free .placed .heard .known)
 

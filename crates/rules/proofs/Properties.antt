@@ -5,7 +5,7 @@ use mathlib.Core.Path.{_≡_, refl}
 use Rattle.rules.specs.Codes.{Step, begin, try, read, write}
 use Rattle.rules.specs.Replies.{Reason, Outcome, ok, value, committed, aborted}
 use Rattle.rules.specs.Register.{Setting, Handler, Register, withHandler, idle}
-use Rattle.rules.specs.Figure.{aborting, step}
+use Rattle.rules.specs.Figure.{Result, aborting, step}
 use Rattle.rules.proofs.Tables.{put-other}
 use Rattle.rules.proofs.Steps.{reading-cases, trying-cases}
 
@@ -26,6 +26,18 @@ module _ {W : Type 0} where
   unfolding withHandler
   one-changed r i h = record { cells = refl; others = λ j ne. put-other (r .handlers) i h j ne }
 
+  -- An answer ok is no abort,
+  ok-no-abort : (reason : Reason) → _≡_ {A = Outcome W} ok (aborted reason) → ⊥
+  ok-no-abort reason e = let z : _≡_ {A = ℕ} 0 1 = cc in omega arith
+
+  -- nor is a commit,
+  pub commit-no-abort : (reason : Reason) → _≡_ {A = Outcome W} committed (aborted reason) → ⊥
+  commit-no-abort reason e = let z : _≡_ {A = ℕ} 0 1 = cc in omega arith
+
+  -- nor is a value.
+  pub value-no-abort : (v : W) (reason : Reason) → value v ≡ aborted reason → ⊥
+  value-no-abort v reason e = let z : _≡_ {A = ℕ} 0 1 = cc in omega arith
+
 module _ {W : Type 0} (S : Setting W) where
   -- Begin, read and write change one handler only.
   pub changes-one : (r : Register W) (i : ℕ) (s : Step) (v : W) → (s ≡ try → ⊥) → OneHandler r i (step S r i s v .after)
@@ -44,17 +56,9 @@ module _ {W : Type 0} (S : Setting W) where
 
   -- ── What an abort leaves ────────────────────────────────────────────
 
-  -- An answer ok is no abort,
-  ok-no-abort : (reason : Reason) → _≡_ {A = Outcome W} ok (aborted reason) → ⊥
-  ok-no-abort reason e = let z : _≡_ {A = ℕ} 0 1 = cc in omega arith
-
-  -- nor is a commit,
-  pub commit-no-abort : (reason : Reason) → _≡_ {A = Outcome W} committed (aborted reason) → ⊥
-  commit-no-abort reason e = let z : _≡_ {A = ℕ} 0 1 = cc in omega arith
-
-  -- nor is a value.
-  pub value-no-abort : (v : W) (reason : Reason) → value v ≡ aborted reason → ⊥
-  value-no-abort v reason e = let z : _≡_ {A = ℕ} 0 1 = cc in omega arith
+  -- Where a result is an abort, handler i is idle with the numbers that it had, and all else is as before.
+  abbrev EndsIdle : Register W → ℕ → Reason → Result W → Type 0
+  EndsIdle r i reason result = result .outcome ≡ aborted reason → result .after ≡ withHandler r i (idle S (r .handlers i .numbers))
 
   -- An abort ends the transaction and leaves all else as before: the handler is idle with the numbers that it had.
   pub abort-ends : (r : Register W) (i : ℕ) (s : Step) (v : W) (reason : Reason)
@@ -63,8 +67,10 @@ module _ {W : Type 0} (S : Setting W) where
   abort-ends r i begin v reason = λ e. absurd (ok-no-abort reason e)
   abort-ends r i (write x) v reason = λ e. absurd (ok-no-abort reason e)
   abort-ends r i (read x) v reason =
-      reading-cases S r i (r .handlers i) (λ result. result .outcome ≡ aborted reason → result .after ≡ aborting S r i (r .handlers i)) x
-      (λ copied e. absurd (value-no-abort _ reason e)) (λ first isTorn e. refl) (λ first isTaken e. absurd (value-no-abort _ reason e))
+      reading-cases S r i (r .handlers i) (EndsIdle r i reason) x
+      (λ copied e. absurd (value-no-abort _ reason e))
+      (λ first isTorn e. refl)
+      (λ first isTaken e. absurd (value-no-abort _ reason e))
   abort-ends r i try v reason =
-      trying-cases S r i (r .handlers i) (λ result. result .outcome ≡ aborted reason → result .after ≡ aborting S r i (r .handlers i))
+      trying-cases S r i (r .handlers i) (EndsIdle r i reason)
       (λ stale e. refl) (λ current full e. refl) (λ current roomy e. absurd (commit-no-abort reason e))

@@ -5,8 +5,8 @@ use mathlib.Core.Bool.{Bool, true, false, _||_}
 use Rattle.rules.specs.Replies.{torn, overtaken, spent, value, committed, aborted}
 use Rattle.rules.specs.Register.{Setting, Handler, Register, withHandler}
 use Rattle.rules.specs.Checks.{firstHit}
-use Rattle.rules.specs.Figure.{Result, joined, taken, shown, isTorn, isOvertaken, isSpent, aborting, committing, unlessAborted}
-use Rattle.rules.specs.Figure.{readChecks, tryChecks, firstRead, reading, trying}
+use Rattle.rules.specs.Figure.{Result, joined, taken, shown, isTorn, isOvertaken, isSpent, aborting, committing}
+use Rattle.rules.specs.Figure.{unlessAborted, readChecks, tryChecks, firstRead, reading, trying}
 use Rattle.rules.proofs.Tables.{by, put-here}
 
 module _ {W : Type 0} where

@@ -154,10 +154,14 @@ module _ {W : Type 0} (S : Setting W) (n : ℕ) where
   turn-kept r h i code v kept =
       turn-cases S n true r i code v (λ t. Kept S (t .after) (noteReply h i (kindOf code) v (t .reply)))
       (λ refusal given. rw (note-refused h i (kindOf code) v refusal) kept)
-      (λ s free. rw (free .placed .heard .known) (unfold noteReply in (step-kept S r h i kept s v (free .placed .cell) (phase s free))))
+      (λ s free. rw (free .placed .heard .known) (unfold noteReply in (taken s free)))
     where
       phase : (s : Step) → Free (asked S n true r i code) s → h .opened i ≡ phaseFor s
       phase s free = sym (kept .invariant .handlers i .opened) ∙ free .phase
+
+      taken : (s : Step) → Free (asked S n true r i code) s
+          → Kept S (step S r i s v .after) (note h i s v (step S r i s v .outcome))
+      taken s free = step-kept S r h i kept s v (free .placed .cell) (phase s free)
 
   -- Every run, from any state that has it.
   pub run-kept : (s : State W) (asks : List (Ask W)) → Kept S (s .register) (s .history)

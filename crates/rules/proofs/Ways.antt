@@ -46,4 +46,5 @@ module _ {W : Type 0} (S : Setting W) (n : ℕ) (P : Register W → Type 0)
   -- A turn keeps it, whatever is asked for.
   pub turn-keeps : (r : Register W) → P r → (wellFormed : Bool) (i code : ℕ) (v : W) → P (turn S n wellFormed r i code v .after)
   turn-keeps r holds wellFormed i code v =
-      turn-leaves S n wellFormed r i code v P holds (λ s free. step-keeps r holds i (free .placed .heard .handler) s (free .placed .cell) v)
+      turn-leaves S n wellFormed r i code v P holds
+      (λ s free. step-keeps r holds i (free .placed .heard .handler) s (free .placed .cell) v)

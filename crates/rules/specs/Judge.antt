@@ -80,7 +80,14 @@ module _ {W : Type 0} (S : Setting W) where
   -- What the checks of a step look at, as the history tells it of a register of n handlers.
   abbrev pub askedByHistory : ℕ → History W → ℕ → ℕ → Asked
   askedByHistory n h i code =
-      record { wellFormed = true; cellCount = S .cellCount; handlerCount = n; handler = i; kind = kindOf code; opened = h .opened i }
+      record {
+        wellFormed = true;
+        cellCount = S .cellCount;
+        handlerCount = n;
+        handler = i;
+        kind = kindOf code;
+        opened = h .opened i;
+      }
 
   -- Refused, or else answered.
   unfoldable pub orAnswered : History W → ℕ → ℕ → Option Refusal → Kind → Reply W
