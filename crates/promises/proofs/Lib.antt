@@ -5,3 +5,4 @@ pub mod Leaves
 pub mod OneBlock
 pub mod Runs
 pub mod Inherits
+pub mod WordCases

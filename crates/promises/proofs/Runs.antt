@@ -1,9 +1,9 @@
 -- A run of words follows the rules: the words stay well formed and keep m and n, they say the register that the rules' run leads
 -- to, each reply is the rules' reply, and the history is the rules' history.
 use Prim.Native.Nat.{ℕ}
-use mathlib.Core.Path.{_≡_, refl, sym, ap, ap₂, _∙_}
+use mathlib.Core.Path.{_≡_, refl, sym, ap, ap₂, _∙_, subst}
 use mathlib.Core.Bool.{true}
-use mathlib.Core.List.{List, [], _∷_, _++_}
+use mathlib.Core.List.{List, [], _∷_, _++_, append-nil, append-assoc}
 use Rattle.rules.specs.Replies.{Reply, ready}
 use Rattle.rules.specs.Register.{Setting}
 use Rattle.rules.specs.Turn.{turn}
@@ -64,7 +64,8 @@ module _ {m n : ℕ} {asks : List (Ask ℕ)} {words : List ℕ} {h : History ℕ
   rules-reply {i} {code} {v} p = p .replied ∙ ap (λ t. t .reply) (turn-said i code v)
 
   -- One step more follows the rules.
-  stepped-follows : (a : Ask ℕ) {reply : Reply ℕ} {after : List ℕ} → StepPromise words (a .handler) (a .code) (a .value) reply after
+  stepped-follows : (a : Ask ℕ) {reply : Reply ℕ} {after : List ℕ}
+      → StepPromise words (a .handler) (a .code) (a .value) reply after
       → FollowsRules m n (asks ++ (a ∷ [])) after (noted h a reply)
   unfolding moved
   stepped-follows a {reply} {after} p = record {
@@ -82,10 +83,30 @@ module _ {m n : ℕ} {asks : List (Ask ℕ)} {words : List ℕ} {h : History ℕ
       next = run-more (wordSetting m) n (start (wordSetting m)) asks a
 
       said : view m n after ≡ turnOf words (a .handler) (a .code) (a .value) .after
-      said = ap₂ (λ cells handlers. view cells handlers after) (sym (follows .cellCount)) (sym (follows .handlerCount)) ∙ step-says p
+      said = ap₂ (λ cells handlers. view cells handlers after) (sym (follows .cellCount)) (sym (follows .handlerCount))
+          ∙ step-says p
 
 -- Every run of words follows the rules.
 pub run-follows : {m n : ℕ} {asks : List (Ask ℕ)} {words : List ℕ} {h : History ℕ} → WordRun m n asks words h
     → FollowsRules m n asks words h
 run-follows (opened p) = opened-follows p
 run-follows (stepped a before p) = stepped-follows (run-follows before) a p
+
+-- ── There are runs ────────────────────────────────────────────────────
+
+-- A run of these steps, with the words and the history that it comes to.
+pub record Ran (m n : ℕ) (asks : List (Ask ℕ)) : Type 0 where
+  pub words : List ℕ
+  pub history : History ℕ
+  pub run : WordRun m n asks words history
+
+-- A run goes on with any list of steps.
+goes-on : {m n : ℕ} {done : List (Ask ℕ)} {words : List ℕ} {h : History ℕ} → WordRun m n done words h
+    → (asks : List (Ask ℕ)) → Ran m n (done ++ asks)
+goes-on {m} {n} {done} ran [] = subst (Ran m n) (sym (append-nil done)) (record { words = _; history = _; run = ran })
+goes-on {m} {n} {done} ran (a ∷ asks) = subst (Ran m n) (append-assoc done (a ∷ []) asks)
+    (goes-on (stepped a ran (record { replied = refl; left = refl })) asks)
+
+-- Words that an opening left ready have a run of every list of steps.
+pub every-run : {m n : ℕ} {words after : List ℕ} → OpeningPromise words m n ready after → (asks : List (Ask ℕ)) → Ran m n asks
+every-run p asks = goes-on (opened p) asks

@@ -1,5 +1,5 @@
--- The third demand of words: what is true after every run of words, of the words, of the replies that the next step can get, and of
--- the history of the replies on the way. No table of the rules is spoken of, only words.
+-- The third demand of words: what is true after every run of words, of the words, of the replies that a next step can get, and
+-- of the history of the replies on the way. No table of the rules is spoken of, only words.
 use Prim.Native.Nat.{ℕ, _+_, _<_}
 use mathlib.Core.Path.{_≡_}
 use mathlib.Core.Bool.{true}
@@ -7,11 +7,11 @@ use mathlib.Core.List.{List}
 use mathlib.Core.Logic.{_↔_}
 use lib.ListN.{getD}
 use Rattle.rules.specs.Codes.{known, try, kindOf}
-use Rattle.rules.specs.Replies.{Reply, torn, overtaken}
+use Rattle.rules.specs.Replies.{torn, overtaken, aborted, Reply}
 use Rattle.rules.specs.History.{History, writer}
 use Rattle.rules.specs.Past.{Tears, upTo}
 use Rattle.rules.specs.Replay.{Legal}
-use Rattle.rules.specs.Demand.{Ask, abortReply, FirstRead}
+use Rattle.rules.specs.Demand.{Ask, reportedTo, FirstRead}
 use Rattle.rules.specs.Judge.{numberAmong, judgement, Overtaken}
 use Rattle.layout.specs.Rows.{below}
 use Rattle.layout.specs.Places.{cellStart}
@@ -35,18 +35,19 @@ pub record WordsConsistent (m n : ℕ) (words : List ℕ) (h : History ℕ) : Ty
   -- causal past, wrote a later version than one already read;
   pub tornExactly : {i code x v : ℕ} {reply : Reply ℕ} {after : List ℕ}
       → FirstRead (wordSetting m) n h i code x → StepPromise words i code v reply after
-      → (reply ≡ abortReply i code torn) ↔ Tears (h .commits) (h .now i) (writer (h .commits) x)
+      → (reply ≡ reportedTo i code (aborted torn)) ↔ Tears (h .commits) (h .now i) (writer (h .commits) x)
   -- besides, each reply, refused or reported, is what the history alone tells;
   pub replies : {i code v : ℕ} {reply : Reply ℕ} {after : List ℕ} → StepPromise words i code v reply after
       → reply ≡ judgement (wordSetting m) n h i code
   -- a try is answered abort 2 exactly when a version read is no longer the present one;
   pub overtakenExactly : {i code v : ℕ} {reply : Reply ℕ} {after : List ℕ} → i < n → kindOf code ≡ known try → h .opened i ≡ true
       → StepPromise words i code v reply after
-      → (reply ≡ abortReply i code overtaken) ↔ Overtaken (h .commits) (h .now i)
+      → (reply ≡ reportedTo i code (aborted overtaken)) ↔ Overtaken (h .commits) (h .now i)
   -- and a cell's number for y is that of the latest version of y in the cell's writer and that one's past
   pub numbers : (x y : ℕ) → x < m → y < m
       → numberWord m words x y ≡ numberAmong (h .commits) (upTo (h .commits) (writer (h .commits) x)) y
 
 -- THE THIRD DEMAND OF WORDS, of every m and n, all words that are opened, and every list of steps.
 abbrev pub WordsInherit : Type 0
-WordsInherit = (m n : ℕ) (asks : List (Ask ℕ)) (words : List ℕ) (h : History ℕ) → WordRun m n asks words h → WordsConsistent m n words h
+WordsInherit = (m n : ℕ) (asks : List (Ask ℕ)) (words : List ℕ) (h : History ℕ)
+    → WordRun m n asks words h → WordsConsistent m n words h

@@ -1,5 +1,5 @@
--- Runs of words: some words are opened, and then any steps are asked for, each of which keeps its promise. The history of a run is
--- noted from what is asked for and what is replied; no word is looked at, and nothing is assumed of what the words say.
+-- Runs of words: some words are opened, and then any steps are asked for, each of which keeps its promise. The history of a run
+-- is noted from what is asked for and what is replied; no word is looked at, and nothing is assumed of what the words say.
 use Prim.Native.Nat.{ℕ}
 use mathlib.Core.List.{List, [], _∷_, _++_}
 use Rattle.rules.specs.Codes.{kindOf}

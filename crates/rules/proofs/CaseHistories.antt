@@ -7,7 +7,7 @@ use mathlib.Core.List.{List, [], _∷_}
 use lib.Dec.{ltb}
 use Rattle.rules.specs.Tables.{put, orElse, lowest, someBelow}
 use Rattle.rules.specs.Codes.{read, kindOf}
-use Rattle.rules.specs.Replies.{Outcome, Reply, reported}
+use Rattle.rules.specs.Replies.{Outcome, Reply}
 use Rattle.rules.specs.Register.{Setting, withHandler, idle, blank, fresh}
 use Rattle.rules.specs.Checks.{firstHit, stepChecks}
 use Rattle.rules.specs.Figure.{joined, taken, wrote, shown, stamped, stored, begun, isTorn, isOvertaken, isSpent, aborting}
@@ -17,7 +17,7 @@ use Rattle.rules.specs.History.{Commit, History, someLook, hasRead, hasW
 use Rattle.rules.specs.History.{readDeed, noteOk, noteValue, ended, noteCommit, noteAbort, note, noteReply}
 use Rattle.rules.specs.Past.{hasReadFrom, inPast, upTo, later, outdated, tears}
 use Rattle.rules.specs.Replay.{after, replay}
-use Rattle.rules.specs.Demand.{Ask, State, start, moved, run}
+use Rattle.rules.specs.Demand.{Ask, State, start, moved, run, reportedTo}
 use Rattle.rules.specs.Judge.{copied, orAborted, answerRead, answer}
 
 -- Two cells that hold 0 at opening.
@@ -71,7 +71,7 @@ isFirst steps x = ltb x 2 && (h .opened 0 && not (hasRead (h .now 0) x || hasWri
 -- After these steps handler 0 makes a first read of x, and is answered so by the register and by the judge.
 pub record Answered (steps : List (Ask ℕ)) (x : ℕ) (outcome : Outcome ℕ) : Type 0 where
   pub first : isFirst steps x ≡ true
-  pub reply : replyTo steps x ≡ reported (record { handler = 0; code = 32 + x; outcome = outcome })
+  pub reply : replyTo steps x ≡ reportedTo 0 (32 + x) outcome
   pub judged : answerTo steps x ≡ outcome
 
 -- Handler 0 reads cell 0, and then handler 1 commits 0 := 5.

@@ -9,7 +9,7 @@ use Rattle.rules.specs.Turn.{turn}
 use Rattle.rules.specs.History.{Deed, look, set, Commit, Abort, someLook, everyCommit}
 use Rattle.rules.specs.Past.{hasReadFrom, inPast, upTo}
 use Rattle.rules.specs.Replay.{after, replay}
-use Rattle.rules.specs.Demand.{Ask, abortReply}
+use Rattle.rules.specs.Demand.{Ask, reportedTo}
 use Rattle.rules.proofs.CaseHistories.{two, begins, tries, reads, writes, reached, commitsAfter, answerTo, isFirst}
 use Rattle.rules.proofs.CaseHistories.{Answered, overtakes}
 
@@ -83,7 +83,7 @@ unfolding reached k10-read
 k10-open = refl
 
 -- and its try is answered abort 2.
-pub k10-overtaken : turn two 4 true (reached k10-read .register) 0 1 0 .reply ≡ abortReply 0 1 overtaken
+pub k10-overtaken : turn two 4 true (reached k10-read .register) 0 1 0 .reply ≡ reportedTo 0 1 (aborted overtaken)
 unfolding reached k10-read
 k10-overtaken = refl
 

@@ -15,7 +15,7 @@ use Rattle.rules.specs.Turn.{turn}
 use Rattle.rules.specs.History.{Deed, look, again, History, hasRead, hasWritten, writer}
 use Rattle.rules.specs.Past.{Stands, last, older, Tears, inPast}
 use Rattle.rules.specs.Replay.{after, firstOf, replay, Finds, FromPast}
-use Rattle.rules.specs.Demand.{Ask, abortReply, FirstRead}
+use Rattle.rules.specs.Demand.{Ask, reportedTo, FirstRead}
 use Rattle.rules.specs.Judge.{Overtaken}
 use Rattle.rules.proofs.Tables.{and-left, and-right, or-left, or-right}
 use Rattle.rules.proofs.Properties.{value-no-abort}
@@ -23,9 +23,10 @@ use Rattle.rules.proofs.ExactAborts.{outcomeOf}
 use Rattle.rules.proofs.ThirdDemand.{third-demand, history-tells}
 use Rattle.rules.proofs.CaseHistories.{two, reached, commitsAfter, replyTo, isFirst, Answered}
 use Rattle.rules.proofs.CasesComputed.{k8, k8-answered, k9, k9-answered, k10, k10-answered, k10-read, k10-open}
-use Rattle.rules.proofs.CasesComputed.{k10-overtaken, k10-tried, k10-commits, k10-aborted, k10-history, k11, k11-answered, k11-first}
-use Rattle.rules.proofs.CasesComputed.{k11-second, readOnly, readOnly-answered, pastOfPast, pastOfPast-answered}
-use Rattle.rules.proofs.CasesComputed.{abortedRead, abortedRead-answered, blind, blind-answered}
+use Rattle.rules.proofs.CasesComputed.{k10-overtaken, k10-tried, k10-commits, k10-aborted, k10-history, k11}
+use Rattle.rules.proofs.CasesComputed.{k11-answered, k11-first, k11-second, readOnly, readOnly-answered}
+use Rattle.rules.proofs.CasesComputed.{pastOfPast, pastOfPast-answered, abortedRead, abortedRead-answered}
+use Rattle.rules.proofs.CasesComputed.{blind, blind-answered}
 
 -- The writer of x, or a commit in its past, wrote a later version than one that handler 0 has read by then.
 abbrev pub TearsAfter : List (Ask ℕ) → ℕ → Type 0
@@ -41,7 +42,7 @@ read-code (suc zero) inside = refl
 read-code (suc (suc x)) inside = absurd (omega arith)
 
 -- A read that the test calls a first one is one.
-first-read : (steps : List (Ask ℕ)) (x : ℕ) → isFirst steps x ≡ true → FirstRead two 4 (reached steps .history) 0 (32 + x) x
+pub first-read : (steps : List (Ask ℕ)) (x : ℕ) → isFirst steps x ≡ true → FirstRead two 4 (reached steps .history) 0 (32 + x) x
 unfolding isFirst
 first-read steps x e = record {
   handler = omega arith;
@@ -72,7 +73,7 @@ first-read steps x e = record {
 
 -- The demand's third part, on such a read.
 demanded : (steps : List (Ask ℕ)) (x : ℕ) → isFirst steps x ≡ true
-    → (replyTo steps x ≡ abortReply 0 (32 + x) torn) ↔ TearsAfter steps x
+    → (replyTo steps x ≡ reportedTo 0 (32 + x) (aborted torn)) ↔ TearsAfter steps x
 demanded steps x e = unfold reached in (third-demand ℕ two 4 steps .tornExactly 0 (32 + x) x 0 (first-read steps x e))
 
 -- A read that is answered abort 1 tears,
@@ -124,7 +125,7 @@ blind-holds = answered-value blind 1 7 blind-answered
 pub k10-passed : Overtaken (commitsAfter k10-read) (reached k10-read .history .now 0)
 k10-passed = told .0 k10-overtaken
   where
-    told : (turn two 4 true (reached k10-read .register) 0 1 0 .reply ≡ abortReply 0 1 overtaken)
+    told : (turn two 4 true (reached k10-read .register) 0 1 0 .reply ≡ reportedTo 0 1 (aborted overtaken))
         ↔ Overtaken (commitsAfter k10-read) (reached k10-read .history .now 0)
     told = unfold reached kindOf in (history-tells ℕ two 4 k10-read .overtakenExactly 0 1 0 (omega arith) refl k10-open)
 

@@ -15,12 +15,12 @@ use Rattle.rules.specs.Turn.{turn}
 use Rattle.rules.specs.History.{History, writer, everyCommit}
 use Rattle.rules.specs.Past.{Tears, tears}
 use Rattle.rules.specs.Replay.{replay}
-use Rattle.rules.specs.Demand.{abortReply, FirstRead}
+use Rattle.rules.specs.Demand.{reportedTo, FirstRead}
 use Rattle.rules.specs.Judge.{stale, full, orAborted, answerRead, answerTry, answer, askedByHistory, Overtaken}
 use Rattle.rules.proofs.Deeds.{EachRead}
 use Rattle.rules.proofs.Computed.{tears-is, stale-is}
 use Rattle.rules.proofs.Invariant.{Invariant}
-use Rattle.rules.proofs.Judged.{reportedTo, judged-free, reply-is}
+use Rattle.rules.proofs.Judged.{judged-free, reply-is}
 
 module _ {W : Type 0} where
   -- A check's abort is the outcome exactly when the check holds, where what comes after it is not that abort.
@@ -51,7 +51,7 @@ module _ {W : Type 0} where
 module _ {W : Type 0} (S : Setting W) (n : ℕ) (r : Register W) (h : History W) (g : Invariant S r h) (i code : ℕ) (v : W) where
   -- A step that is free by the history is answered by an abort exactly when the history says so.
   reply-exactly : (s : Step) (reason : Reason) → Free (askedByHistory S n h i code) s
-      → (turn S n true r i code v .reply ≡ abortReply i code reason) ↔ (answer S h i s ≡ aborted reason)
+      → (turn S n true r i code v .reply ≡ reportedTo i code (aborted reason)) ↔ (answer S h i s ≡ aborted reason)
   reply-exactly s reason free = ((λ e. ap outcomeOf (sym replies ∙ e)), (λ e. replies ∙ ap (reportedTo i code) e))
     where
       replies : turn S n true r i code v .reply ≡ reportedTo i code (answer S h i s)
@@ -71,7 +71,7 @@ module _ {W : Type 0} (S : Setting W) (n : ℕ) (r : Register W) (h : History W)
 
   -- Abort 1: exactly when the writer of x, or a commit in its past, wrote a later version than one already read.
   pub torn-exactly : (x : ℕ) → FirstRead S n h i code x
-      → (turn S n true r i code v .reply ≡ abortReply i code torn) ↔ Tears (h .commits) (h .now i) (writer (h .commits) x)
+      → (turn S n true r i code v .reply ≡ reportedTo i code (aborted torn)) ↔ Tears (h .commits) (h .now i) (writer (h .commits) x)
   unfolding answer answerRead
   torn-exactly x f =
       Iff·trans (reply-exactly (read x) torn (free-by-history (read x) (f .asks) (f .handler) (f .cell) (f .opened)))
@@ -88,7 +88,7 @@ module _ {W : Type 0} (S : Setting W) (n : ℕ) (r : Register W) (h : History W)
 
   -- Abort 2: exactly when a version read is no longer the present one.
   pub overtaken-exactly : i < n → kindOf code ≡ known try → h .opened i ≡ true
-      → (turn S n true r i code v .reply ≡ abortReply i code overtaken) ↔ Overtaken (h .commits) (h .now i)
+      → (turn S n true r i code v .reply ≡ reportedTo i code (aborted overtaken)) ↔ Overtaken (h .commits) (h .now i)
   unfolding answer answerTry
   overtaken-exactly inside k isOpen =
       Iff·trans (reply-exactly try overtaken (free-by-history try k inside tt isOpen))

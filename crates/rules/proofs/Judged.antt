@@ -4,7 +4,7 @@ use mathlib.Core.Path.{_≡_, refl, sym, ap, _∙_, fun-ext, subst}
 use mathlib.Core.Bool.{true, false, _||_}
 use Rattle.rules.specs.Tables.{someBelow}
 use Rattle.rules.specs.Codes.{Step, begin, try, read, write}
-use Rattle.rules.specs.Replies.{Outcome, value, Refusal, Reply, reported}
+use Rattle.rules.specs.Replies.{value, Refusal, Reply}
 use Rattle.rules.specs.Register.{Setting, Register}
 use Rattle.rules.specs.Checks.{firstHit}
 use Rattle.rules.specs.Given.{Given, phaseFor, Free}
@@ -12,6 +12,7 @@ use Rattle.rules.specs.Figure.{isOvertaken, isSpent, step}
 use Rattle.rules.specs.Turn.{asked, turn}
 use Rattle.rules.specs.History.{History, hasRead, hasWritten, writer}
 use Rattle.rules.specs.Past.{inPast, tears}
+use Rattle.rules.specs.Demand.{reportedTo}
 use Rattle.rules.specs.Judge.{stale, full, orAborted, answerRead, answerTry, answer, askedByHistory, orAnswered, judgement}
 use Rattle.rules.proofs.Tables.{or-left}
 use Rattle.rules.proofs.Given.{given-exactly, free-exactly}
@@ -22,10 +23,6 @@ use Rattle.rules.proofs.Sources.{Latest, stale-at}
 use Rattle.rules.proofs.Invariant.{Carries, Invariant, own-number}
 use Rattle.rules.proofs.Reading.{torn-same}
 use Rattle.rules.proofs.Committing.{held}
-
--- The report of an outcome to handler i, which asked for it by a code.
-abbrev pub reportedTo : {W : Type 0} → ℕ → ℕ → Outcome W → Reply W
-reportedTo i code outcome = reported (record { handler = i; code = code; outcome = outcome })
 
 module _ {W : Type 0} (S : Setting W) (n : ℕ) (h : History W) (i code : ℕ) where
   -- A step that is given a number by the history is refused with it.

@@ -6,8 +6,8 @@ use mathlib.Core.Path.{_≡_, refl, sym, ap, _∙_}
 use lib.Dec.{eqb}
 use Rattle.rules.specs.Tables.{if_then_else_}
 use Rattle.rules.specs.Replies.{Reason, torn, overtaken, spent, Outcome, ok, value, committed, aborted, Refusal}
-use Rattle.rules.specs.Replies.{notWellFormed, noHandler, noCell, alreadyOpen, notOpen, unknownStep, outOfRange, tooShort, reasonNumber}
-use Rattle.rules.specs.Replies.{refusalNumber, Numbers, outcomeNumbers, refusalNumbers}
+use Rattle.rules.specs.Replies.{notWellFormed, noHandler, noCell, alreadyOpen, notOpen, unknownStep, outOfRange}
+use Rattle.rules.specs.Replies.{tooShort, reasonNumber, refusalNumber, Numbers, outcomeNumbers, refusalNumbers}
 
 -- Different things have different images.
 abbrev pub Injective : {A B : Type 0} → (A → B) → Type 0

@@ -58,7 +58,8 @@ module _ {W : Type 0} (S : Setting W) where
 
   -- Where a result is an abort, handler i is idle with the numbers that it had, and all else is as before.
   abbrev EndsIdle : Register W → ℕ → Reason → Result W → Type 0
-  EndsIdle r i reason result = result .outcome ≡ aborted reason → result .after ≡ withHandler r i (idle S (r .handlers i .numbers))
+  EndsIdle r i reason result =
+      result .outcome ≡ aborted reason → result .after ≡ withHandler r i (idle S (r .handlers i .numbers))
 
   -- An abort ends the transaction and leaves all else as before: the handler is idle with the numbers that it had.
   pub abort-ends : (r : Register W) (i : ℕ) (s : Step) (v : W) (reason : Reason)

@@ -6,7 +6,7 @@ use mathlib.Core.Bool.{true, false}
 use mathlib.Core.List.{List, [], _∷_}
 use mathlib.Core.Logic.{_↔_}
 use Rattle.rules.specs.Codes.{known, read, kindOf}
-use Rattle.rules.specs.Replies.{Reason, Reply, reported, torn, aborted}
+use Rattle.rules.specs.Replies.{torn, Outcome, aborted, Reply, reported}
 use Rattle.rules.specs.Register.{Setting, Register, fresh}
 use Rattle.rules.specs.Turn.{turn}
 use Rattle.rules.specs.History.{History, hasRead, hasWritten, writer, noHistory, noteReply}
@@ -44,9 +44,9 @@ module _ {W : Type 0} (S : Setting W) (n : ℕ) where
 
 -- ── The demand ────────────────────────────────────────────────────────
 
--- The answer by an abort to what handler i asked for by a code.
-abbrev pub abortReply : {W : Type 0} → ℕ → ℕ → Reason → Reply W
-abortReply i code reason = reported (record { handler = i; code = code; outcome = aborted reason })
+-- The report of an outcome to handler i, which asked for it by a code.
+abbrev pub reportedTo : {W : Type 0} → ℕ → ℕ → Outcome W → Reply W
+reportedTo i code outcome = reported (record { handler = i; code = code; outcome = outcome })
 
 -- A first read of a cell x that the transaction has not written: handler i, whose transaction is open, asks for it by a code.
 pub record FirstRead {W : Type 0} (S : Setting W) (n : ℕ) (h : History W) (i code x : ℕ) : Type 0 where
@@ -64,7 +64,7 @@ pub record Consistent {W : Type 0} (S : Setting W) (n : ℕ) (r : Register W) (h
   -- (c) a first read is answered abort 1 exactly when the writer of the cell's present value, or a commit in that writer's
   -- causal past, wrote a later version than one already read
   pub tornExactly : (i code x : ℕ) (v : W) → FirstRead S n h i code x
-      → (turn S n true r i code v .reply ≡ abortReply i code torn) ↔ Tears (h .commits) (h .now i) (writer (h .commits) x)
+      → (turn S n true r i code v .reply ≡ reportedTo i code (aborted torn)) ↔ Tears (h .commits) (h .now i) (writer (h .commits) x)
 
 -- THE THIRD DEMAND, of every kind of value, number of cells, number of handlers, and list of steps from a fresh register.
 abbrev pub ThirdDemand : Type 1

@@ -9,8 +9,6 @@ use Rattle.rules.specs.Tables.{if_then_else_, put}
 use Rattle.rules.specs.Codes.{Step, begin, try, read, write, Kind, known, unknown}
 use Rattle.rules.specs.Replies.{Outcome, ok, value, committed, aborted, Reply, reported}
 
--- ── Transactions ──────────────────────────────────────────────────────
-
 -- What a transaction did in one step. A commit is named by its place in the order of commits, counted from 1; 0 names the
 -- opening, which gave each cell its first version and is nobody's.
 pub data Deed (W : Type 0) : Type 0 where

@@ -9,7 +9,7 @@ use lib.Dec.{eqb}
 use Rattle.rules.specs.Tables.{if_then_else_, put, someBelow}
 use Rattle.rules.specs.Codes.{Step, begin, try, read, write, Kind, known, unknown, kindOf}
 use Rattle.rules.specs.Replies.{Reason, torn, overtaken, spent, Outcome, ok, value, committed, aborted}
-use Rattle.rules.specs.Replies.{Refusal, unknownStep, Reply, reported}
+use Rattle.rules.specs.Replies.{Refusal, unknownStep, Reply}
 use Rattle.rules.specs.Register.{Setting, Register}
 use Rattle.rules.specs.Checks.{_when_, firstHit, Asked, stepChecks}
 use Rattle.rules.specs.Turn.{turn}
@@ -17,7 +17,7 @@ use Rattle.rules.specs.History.{Deed, look, again, set, Commit, History,
 use Rattle.rules.specs.History.{placeAfter, writer, everyCommit}
 use Rattle.rules.specs.Past.{Stands, upTo, tears}
 use Rattle.rules.specs.Replay.{replay}
-use Rattle.rules.specs.Demand.{Ask, abortReply, start, run}
+use Rattle.rules.specs.Demand.{Ask, reportedTo, start, run}
 
 module _ {W : Type 0} where
   -- ── Versions by number ──────────────────────────────────────────────
@@ -93,7 +93,7 @@ module _ {W : Type 0} (S : Setting W) where
   unfoldable pub orAnswered : History W → ℕ → ℕ → Option Refusal → Kind → Reply W
   orAnswered h i code (some refusal) kind = Reply.refused refusal
   orAnswered h i code none unknown = Reply.refused unknownStep
-  orAnswered h i code none (known step) = reported (record { handler = i; code = code; outcome = answer h i step })
+  orAnswered h i code none (known step) = reportedTo i code (answer h i step)
 
   -- The reply to what handler i asks for by a code, from the history alone.
   unfoldable pub judgement : ℕ → History W → ℕ → ℕ → Reply W
@@ -116,7 +116,7 @@ pub record Told {W : Type 0} (S : Setting W) (n : ℕ) (r : Register W) (h : His
   pub replies : (i code : ℕ) (v : W) → turn S n true r i code v .reply ≡ judgement S n h i code
   -- abort 2, to a try of an open transaction, exactly when a version read is no longer the present one;
   pub overtakenExactly : (i code : ℕ) (v : W) → i < n → kindOf code ≡ known try → h .opened i ≡ true
-      → (turn S n true r i code v .reply ≡ abortReply i code overtaken) ↔ Overtaken (h .commits) (h .now i)
+      → (turn S n true r i code v .reply ≡ reportedTo i code (aborted overtaken)) ↔ Overtaken (h .commits) (h .now i)
   -- a cell's number for y: that of the latest version of y in the cell's writer and that one's past
   pub numbers : (x y : ℕ) → r .cells x .numbers y ≡ numberAmong (h .commits) (upTo (h .commits) (writer (h .commits) x)) y
 
