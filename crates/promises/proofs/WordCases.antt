@@ -8,7 +8,7 @@ use Rattle.rules.specs.History.{History, writer}
 use Rattle.rules.specs.Past.{Tears}
 use Rattle.rules.specs.Demand.{Ask, reportedTo, FirstRead}
 use Rattle.rules.proofs.Properties.{value-no-abort}
-use Rattle.rules.proofs.ExactAborts.{outcomeOf}
+use Rattle.rules.proofs.ExactAborts.{outcomeIn}
 use Rattle.rules.proofs.CaseHistories.{reached, Answered}
 use Rattle.rules.proofs.CasesComputed.{k8, k8-answered, k10, k10-answered}
 use Rattle.rules.proofs.CasesDemanded.{first-read}
@@ -45,7 +45,7 @@ module _ {steps : List (Ask ℕ)} {x : ℕ} {words after : List ℕ} {h : Histor
       whole : TearsFor h 0 x → ⊥
       whole tears =
           let torn-too = words-inherit 2 4 steps words h ran .tornExactly (case-first answered) p .1 tears in
-          value-no-abort v torn (ap outcomeOf (sym (case-replied answered) ∙ torn-too))
+          value-no-abort v torn (ap outcomeIn (sym (case-replied answered) ∙ torn-too))
 
 module _ {words after : List ℕ} {h : History ℕ} {reply : Reply ℕ} where
   -- K8 of words: abort 1, and it tears.

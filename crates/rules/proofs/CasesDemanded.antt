@@ -19,7 +19,7 @@ use Rattle.rules.specs.Demand.{Ask, reportedTo, FirstRead}
 use Rattle.rules.specs.Judge.{Overtaken}
 use Rattle.rules.proofs.Tables.{and-left, and-right, or-left, or-right}
 use Rattle.rules.proofs.Properties.{value-no-abort}
-use Rattle.rules.proofs.ExactAborts.{outcomeOf}
+use Rattle.rules.proofs.ExactAborts.{outcomeIn}
 use Rattle.rules.proofs.ThirdDemand.{third-demand, history-tells}
 use Rattle.rules.proofs.CaseHistories.{two, reached, commitsAfter, replyTo, isFirst, Answered}
 use Rattle.rules.proofs.CasesComputed.{k8, k8-answered, k9, k9-answered, k10, k10-answered, k10-read, k10-open}
@@ -83,7 +83,7 @@ answered-torn steps x a = demanded steps x (a .first) .0 (a .reply)
 -- and one that is answered with a value does not.
 pub answered-value : (steps : List (Ask ℕ)) (x v : ℕ) → Answered steps x (value v) → TearsAfter steps x → ⊥
 answered-value steps x v a tears =
-    value-no-abort v torn (ap outcomeOf (sym (a .reply) ∙ demanded steps x (a .first) .1 tears))
+    value-no-abort v torn (ap outcomeIn (sym (a .reply) ∙ demanded steps x (a .first) .1 tears))
 
 -- ── The cases ─────────────────────────────────────────────────────────
 

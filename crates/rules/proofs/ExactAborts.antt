@@ -17,6 +17,7 @@ use Rattle.rules.specs.Past.{Tears, tears}
 use Rattle.rules.specs.Replay.{replay}
 use Rattle.rules.specs.Demand.{reportedTo, FirstRead}
 use Rattle.rules.specs.Judge.{stale, full, orAborted, answerRead, answerTry, answer, askedByHistory, Overtaken}
+use Rattle.rules.proofs.Properties.{commit-no-abort, value-no-abort}
 use Rattle.rules.proofs.Deeds.{EachRead}
 use Rattle.rules.proofs.Computed.{tears-is, stale-is}
 use Rattle.rules.proofs.Invariant.{Invariant}
@@ -34,25 +35,25 @@ module _ {W : Type 0} where
   -- A read that is not torn gives a value.
   not-torn : (v : W) → orAborted (firstHit []) (value v) ≡ aborted torn → ⊥
   unfolding firstHit orAborted
-  not-torn v e = let z : _≡_ {A = ℕ} 0 1 = cc in omega arith
+  not-torn v e = value-no-abort v torn e
 
   -- A try that is not overtaken is spent or committed.
   not-overtaken : (isFull : Bool)
       → _≡_ {A = Outcome W} (orAborted (firstHit ((spent when isFull) ∷ [])) committed) (aborted overtaken) → ⊥
   unfolding firstHit orAborted
   not-overtaken true e = let z : _≡_ {A = ℕ} 0 1 = cc in omega arith
-  not-overtaken false e = let z : _≡_ {A = ℕ} 0 1 = cc in omega arith
+  not-overtaken false e = commit-no-abort overtaken e
 
   -- The outcome that a reply reports; ok where it is refused.
-  abbrev pub outcomeOf : Reply W → Outcome W
-  outcomeOf (reported report) = report .outcome
-  outcomeOf (Reply.refused refusal) = ok
+  abbrev pub outcomeIn : Reply W → Outcome W
+  outcomeIn (reported report) = report .outcome
+  outcomeIn (Reply.refused refusal) = ok
 
 module _ {W : Type 0} (S : Setting W) (n : ℕ) (r : Register W) (h : History W) (g : Invariant S r h) (i code : ℕ) (v : W) where
   -- A step that is free by the history is answered by an abort exactly when the history says so.
   reply-exactly : (s : Step) (reason : Reason) → Free (askedByHistory S n h i code) s
       → (turn S n true r i code v .reply ≡ reportedTo i code (aborted reason)) ↔ (answer S h i s ≡ aborted reason)
-  reply-exactly s reason free = ((λ e. ap outcomeOf (sym replies ∙ e)), (λ e. replies ∙ ap (reportedTo i code) e))
+  reply-exactly s reason free = ((λ e. ap outcomeIn (sym replies ∙ e)), (λ e. replies ∙ ap (reportedTo i code) e))
     where
       replies : turn S n true r i code v .reply ≡ reportedTo i code (answer S h i s)
       replies = reply-is S r h g n i code v ∙ judged-free S n h i code s free
@@ -71,7 +72,8 @@ module _ {W : Type 0} (S : Setting W) (n : ℕ) (r : Register W) (h : History W)
 
   -- Abort 1: exactly when the writer of x, or a commit in its past, wrote a later version than one already read.
   pub torn-exactly : (x : ℕ) → FirstRead S n h i code x
-      → (turn S n true r i code v .reply ≡ reportedTo i code (aborted torn)) ↔ Tears (h .commits) (h .now i) (writer (h .commits) x)
+      → (turn S n true r i code v .reply ≡ reportedTo i code (aborted torn))
+      ↔ Tears (h .commits) (h .now i) (writer (h .commits) x)
   unfolding answer answerRead
   torn-exactly x f =
       Iff·trans (reply-exactly (read x) torn (free-by-history (read x) (f .asks) (f .handler) (f .cell) (f .opened)))

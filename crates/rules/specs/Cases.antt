@@ -1,5 +1,5 @@
 -- Document 01's cases K1 to K12 as data: one list of rows. A row has its opening, its steps with the replies that are expected,
--- and the words that are expected at the end. The crate `cases` claims them of the promises, proofs/AllCases.antt of the rules alone.
+-- and the words that are expected at the end. The crate `cases` claims them of the promises, proofs/AllCases.antt of the rules.
 use Prim.Native.Nat.{ℕ}
 use mathlib.Core.List.{List, [], _∷_, _++_}
 use lib.ListN.{replicate}

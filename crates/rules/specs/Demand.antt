@@ -64,7 +64,8 @@ pub record Consistent {W : Type 0} (S : Setting W) (n : ℕ) (r : Register W) (h
   -- (c) a first read is answered abort 1 exactly when the writer of the cell's present value, or a commit in that writer's
   -- causal past, wrote a later version than one already read
   pub tornExactly : (i code x : ℕ) (v : W) → FirstRead S n h i code x
-      → (turn S n true r i code v .reply ≡ reportedTo i code (aborted torn)) ↔ Tears (h .commits) (h .now i) (writer (h .commits) x)
+      → (turn S n true r i code v .reply ≡ reportedTo i code (aborted torn))
+      ↔ Tears (h .commits) (h .now i) (writer (h .commits) x)
 
 -- THE THIRD DEMAND, of every kind of value, number of cells, number of handlers, and list of steps from a fresh register.
 abbrev pub ThirdDemand : Type 1
