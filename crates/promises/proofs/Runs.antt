@@ -1,20 +1,26 @@
 -- A run of words follows the rules: the words stay well formed and keep m and n, they say the register that the rules' run leads
 -- to, each reply is the rules' reply, and the history is the rules' history.
-use Prim.Native.Nat.{ℕ}
+use Prim.Native.Nat.{ℕ, _≤_}
 use mathlib.Core.Path.{_≡_, refl, sym, ap, ap₂, _∙_, subst}
 use mathlib.Core.Bool.{true}
 use mathlib.Core.List.{List, [], _∷_, _++_, append-nil, append-assoc}
+use mathlib.Core.Option.{none}
+use lib.ListN.{length}
+use borrow.Author.Tests.{le-ltb}
 use Rattle.rules.specs.Replies.{Reply, ready}
-use Rattle.rules.specs.Register.{Setting}
+use Rattle.rules.specs.Register.{Setting, fresh}
+use Rattle.rules.specs.Checks.{firstHit, openingChecks}
+use Rattle.rules.specs.Given.{InRange}
 use Rattle.rules.specs.Turn.{turn}
 use Rattle.rules.specs.History.{History, noHistory}
 use Rattle.rules.specs.Demand.{Ask, State, start, moved, run}
-use Rattle.layout.specs.Places.{cellsOf, handlersOf}
-use Rattle.layout.specs.View.{wordSetting, view}
+use Rattle.rules.proofs.Given.{range-tested}
+use Rattle.layout.specs.Places.{cellsOf, handlersOf, size}
+use Rattle.layout.specs.View.{wordSetting, view, holding}
 use Rattle.layout.specs.WellFormed.{WellFormed}
 use Rattle.layout.proofs.Tested.{tested}
 use Rattle.layout.proofs.Kept.{Keeps}
-use Rattle.promises.specs.Opening.{OpeningPromise}
+use Rattle.promises.specs.Opening.{openingRefusal, openingReply, openingWords, OpeningPromise}
 use Rattle.promises.specs.Stepping.{turnOf, StepPromise}
 use Rattle.promises.specs.Runs.{noted, WordRun, opened, stepped}
 use Rattle.promises.proofs.Leaves.{step-keeps, step-says, Ready, opening-ready}
@@ -107,6 +113,15 @@ goes-on {m} {n} {done} ran [] = subst (Ran m n) (sym (append-nil done)) (record 
 goes-on {m} {n} {done} ran (a ∷ asks) = subst (Ran m n) (append-assoc done (a ∷ []) asks)
     (goes-on (stepped a ran (record { replied = refl; left = refl })) asks)
 
--- Words that an opening left ready have a run of every list of steps.
-pub every-run : {m n : ℕ} {words after : List ℕ} → OpeningPromise words m n ready after → (asks : List (Ask ℕ)) → Ran m n asks
-every-run p asks = goes-on (opened p) asks
+-- Words that are long enough, with m and n in range, are opened and ready.
+opens : (words : List ℕ) (m n : ℕ) → InRange m n → size m n ≤ length words
+    → OpeningPromise words m n ready (holding words m n (fresh (wordSetting m)))
+unfolding openingRefusal openingChecks firstHit openingReply openingWords
+opens words m n ranged fits = record { replied = rw passes; left = rw passes }
+  where
+    passes : openingRefusal words m n ≡ none
+    passes = rw (range-tested m n .1 ranged, le-ltb (length words) (size m n) fits)
+
+-- So every list of steps has a run, for all m and n in range and all words that are long enough.
+pub every-run : (words : List ℕ) (m n : ℕ) → InRange m n → size m n ≤ length words → (asks : List (Ask ℕ)) → Ran m n asks
+every-run words m n ranged fits asks = goes-on (opened (opens words m n ranged fits)) asks

@@ -15,9 +15,10 @@ use Rattle.rules.proofs.Given.{Verdict, verdict, given-exactly, free-ex
 
 -- What the turn of a step that is taken is.
 abbrev pub takenTurn : {W : Type 0} → Setting W → Register W → ℕ → ℕ → W → Step → Turn W
-takenTurn S r i code v s =
-    let result = step S r i s v in
-    record { reply = reported (record { handler = i; code = code; outcome = result .outcome }); after = result .after }
+takenTurn S r i code v s = record {
+  reply = reported (record { handler = i; code = code; outcome = step S r i s v .outcome });
+  after = step S r i s v .after;
+}
 
 -- What the turn of a step that is refused is.
 abbrev pub refusedTurn : {W : Type 0} → Register W → Refusal → Turn W
@@ -52,8 +53,7 @@ module _ {W : Type 0} (S : Setting W) (n : ℕ) (wellFormed : Bool) (r : Registe
       reports : {report : Report W} → _≡_ {A = Reply W} (reported report) (Reply.refused refusal) → ⊥
       reports e = let z : _≡_ {A = ℕ} 0 1 = cc in omega arith
 
-      decides : gets .reply ≡ Reply.refused refusal → Verdict what
-          → Given refusal what
+      decides : gets .reply ≡ Reply.refused refusal → Verdict what → Given refusal what
       decides e (inl (other, g)) = subst (λ f. Given f what) (same (sym (ap (λ t. t .reply) (given-turn other g)) ∙ e)) g
       decides e (inr (s, f)) = absurd (reports (sym (ap (λ t. t .reply) (free-turn s f)) ∙ e))
 
