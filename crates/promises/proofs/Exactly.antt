@@ -16,9 +16,13 @@ use Rattle.promises.specs.Stepping.{askedOf, turnOf, stepWords, StepProm
 
 -- ── Opening ───────────────────────────────────────────────────────────
 
+-- An opening is replied to with a refusal just when its checks say that refusal.
 opening-said : (o : Option Refusal) (refusal : Refusal) → (openingReply o ≡ Opening.refused refusal) ↔ (o ≡ some refusal)
 unfolding openingReply
-opening-said none refusal = (λ e. absurd (let z : _≡_ {A = ℕ} 0 1 = cc in omega arith), λ e. absurd (Option·some-ne-none refusal (sym e)))
+opening-said none refusal = (
+  λ e. absurd (let z : _≡_ {A = ℕ} 0 1 = cc in omega arith),
+  λ e. absurd (Option·some-ne-none refusal (sym e)),
+)
 opening-said (some other) refusal = (λ e. cc, λ e. cc)
 
 -- An opening is refused with each number exactly then.

@@ -95,6 +95,7 @@ module _ {words : List ℕ} {handler code value : ℕ} {reply : Reply ℕ} {afte
 
 -- ── Opening ───────────────────────────────────────────────────────────
 
+-- An opening that is replied to with ready passes its checks.
 opening-passes : (o : Option Refusal) → openingReply o ≡ ready → o ≡ none
 unfolding openingReply
 opening-passes none e = refl

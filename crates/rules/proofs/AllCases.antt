@@ -1,5 +1,5 @@
--- The cases on tables: the rows that open a register, played by the rules alone. The claim of all rows is that of the crate `cases`,
--- over words; this one stands beside the rules, so that a wrong edit of them is refused here.
+-- The cases on tables: the rows that open a register, played by the rules alone. The claim of all rows is that of the crate
+-- `cases`, over words; this one stands beside the rules, so that a wrong edit of them is refused here.
 use Prim.Native.Nat.{ℕ, zero, suc}
 use mathlib.Core.Path.{_≡_, refl}
 use mathlib.Core.Bool.{true}
@@ -28,6 +28,7 @@ rowOf lines (opened m n long reply) (loose words) = []
 rowOf lines (given words) (register cells handlers beyond) = []
 rowOf lines (given words) (loose others) = []
 
+-- The rows of a list of cases.
 pub rowsOf : List Case → List Row
 rowsOf [] = []
 rowsOf (c ∷ rest) = rowOf (c .lines) (c .start) (c .end) ++ rowsOf rest

@@ -1,5 +1,5 @@
--- SameFrom its cells and its n handlers a register holds what a fresh one holds, and every step and every turn leaves it so. Words
--- have no room for anything beyond: a confined register is all in its words.
+-- Beyond its cells and its n handlers a register holds what a fresh one holds, and every step and every turn leaves it so.
+-- Words have no room for anything beyond: a confined register is all in its words.
 use Prim.Native.Nat.{ℕ, _<_}
 use mathlib.Core.Path.{refl}
 use mathlib.Core.Bool.{Bool, true, false}
@@ -20,7 +20,7 @@ pub record ConfinedHandler {W : Type 0} (S : Setting W) (h : Handler W) : Type 0
   pub transaction : SameFrom (S .cellCount) 0 (h .transaction)
   pub copies : SameFrom (S .cellCount) (S .empty) (h .copies)
 
--- SameFrom the setting's cells and n handlers the register holds what a fresh one holds, and so does every vector, set and row of
+-- Beyond the setting's cells and n handlers the register holds what a fresh one holds, and so does every vector, set and row of
 -- copies in it.
 pub record Confined {W : Type 0} (S : Setting W) (n : ℕ) (r : Register W) : Type 0 where
   pub cells : SameFrom (S .cellCount) (blank S) (r .cells)

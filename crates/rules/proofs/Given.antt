@@ -8,7 +8,8 @@ use mathlib.Core.Option.{Option, none, some, Option·some-injective, Option·som
 use lib.Dec.{leb, ltb}
 use borrow.Author.Tests.{leb-true, leb-false, le-leb, lt-leb, ltb-true, lt-ltb}
 use Rattle.rules.specs.Codes.{Step, begin, try, read, write, Kind, known, unknown}
-use Rattle.rules.specs.Replies.{Refusal, notWellFormed, noHandler, noCell, alreadyOpen, notOpen, unknownStep, outOfRange, tooShort}
+use Rattle.rules.specs.Replies.{Refusal, notWellFormed, noHandler, noCell, alreadyOpen, notOpen, unknownStep, outOfRange}
+use Rattle.rules.specs.Replies.{tooShort}
 use Rattle.rules.specs.Checks.{Check, _when_, firstHit, Asked, isBeyond, isBegin, stepChecks, inRange, openingChecks}
 use Rattle.rules.specs.Given.{Within, Beyond, Late, Heard, Placed, Given, phaseFor, Free, InRange, OpeningGiven}
 use Rattle.rules.proofs.Tables.{and-iff, leb-iff, by, both-ways}
@@ -33,24 +34,28 @@ none-holds a false checks = (λ e. (refl, e), λ h. h .1)
 
 -- ── Cells named by a step ─────────────────────────────────────────────
 
+-- A step of cell m or above passes the test of 12,
 beyond-test : (m : ℕ) (s : Step) → Beyond m s → isBeyond m (known s) ≡ true
 beyond-test m begin b = absurd b
 beyond-test m try b = absurd b
 beyond-test m (read x) b = le-leb m x b
 beyond-test m (write x) b = le-leb m x b
 
+-- and a step of no such cell fails it.
 within-test : (m : ℕ) (s : Step) → Within m s → isBeyond m (known s) ≡ false
 within-test m begin w = refl
 within-test m try w = refl
 within-test m (read x) w = lt-leb m x w
 within-test m (write x) w = lt-leb m x w
 
+-- A step that passes the test of 12 is of cell m or above,
 test-beyond : (m : ℕ) (s : Step) → isBeyond m (known s) ≡ true → Beyond m s
 test-beyond m begin e = both-ways e refl
 test-beyond m try e = both-ways e refl
 test-beyond m (read x) e = leb-true m x e
 test-beyond m (write x) e = leb-true m x e
 
+-- and one that fails it is not.
 test-within : (m : ℕ) (s : Step) → isBeyond m (known s) ≡ false → Within m s
 test-within m begin e = tt
 test-within m try e = tt
@@ -60,11 +65,15 @@ test-within m (write x) e = leb-false m x e
 -- ── What is so, the lists say ─────────────────────────────────────────
 
 module _ (a : Asked) where
+  -- What the checks of a step say of what is asked.
   unfoldable says : Option Refusal
   says = firstHit (stepChecks a)
 
+  -- The checks of 13 and 14, for a step.
   abbrev phaseChecks : Step → List (Check Refusal)
-  phaseChecks s = (alreadyOpen when (isBegin (known s) && a .opened)) ∷ (notOpen when (not (isBegin (known s)) && not (a .opened))) ∷ []
+  phaseChecks s =
+      (alreadyOpen when (isBegin (known s) && a .opened)) ∷
+      (notOpen when (not (isBegin (known s)) && not (a .opened))) ∷ []
 
   -- What the phase alone says of a step.
   abbrev phased : Step → Option Refusal
@@ -75,6 +84,7 @@ module _ (a : Asked) where
   unfolding says firstHit stepChecks
   heard-says s h = rw (h .wellFormed, h .known, lt-leb (a .handlerCount) (a .handler) (h .handler))
 
+  -- A step of a cell that there is, is judged by its phase alone.
   placed-says : (s : Step) → Placed a s → says ≡ phased s
   unfolding firstHit
   placed-says s p = heard-says s (p .heard) ∙ rw (within-test (a .cellCount) s (p .cell))
@@ -114,22 +124,26 @@ module _ (a : Asked) where
   abbrev pub Verdict : Type 0
   Verdict = ((refusal : Refusal) × Given refusal a) ⊎ ((s : Step) × Free a s)
 
+  -- A read, a write or a try of an open handler is free, and of an idle one is given 14.
   late-decides : (s : Step) → Placed a s → phaseFor s ≡ true → Late s → Verdict
   late-decides s p wanted late = by (a .opened)
       (λ o. inr (s, record { placed = p; phase = o ∙ sym wanted }))
       (λ o. inl (notOpen, (s, p, late, o)))
 
+  -- A step of a cell that there is, is given 13 or 14 or is free.
   phase-decides : (s : Step) → Placed a s → Verdict
   phase-decides begin p = by (a .opened) (λ o. inl (alreadyOpen, (p, o))) (λ o. inr (begin, record { placed = p; phase = o }))
   phase-decides try p = late-decides try p refl tt
   phase-decides (read x) p = late-decides (read x) p refl tt
   phase-decides (write x) p = late-decides (write x) p refl tt
 
+  -- A step that a handler asks for is given 12, 13 or 14 or is free.
   cell-decides : (s : Step) → Heard a s → Verdict
   cell-decides s h = by (isBeyond (a .cellCount) (known s))
       (λ e. inl (noCell, (s, h, test-beyond (a .cellCount) s e)))
       (λ e. phase-decides s (record { heard = h; cell = test-within (a .cellCount) s e }))
 
+  -- What is asked of a well-formed register is given 15, 11, 12, 13 or 14 or is free.
   kind-decides : a .wellFormed ≡ true → (k : Kind) → a .kind ≡ k → Verdict
   kind-decides e unknown q = inl (unknownStep, (e, q))
   kind-decides e (known s) q = by (leb (a .handlerCount) (a .handler))
@@ -143,7 +157,8 @@ module _ (a : Asked) where
 -- The checks of a step give each number exactly then.
 pub given-exactly : (a : Asked) (refusal : Refusal) → (firstHit (stepChecks a) ≡ some refusal) ↔ Given refusal a
 unfolding says
-given-exactly a refusal = exactly (λ f. Given f a) (given-says a) (⊎-map (λ g. g) (λ f. free-passes a (f .0) (f .1)) (verdict a)) refusal
+given-exactly a refusal =
+    exactly (λ f. Given f a) (given-says a) (⊎-map (λ g. g) (λ f. free-passes a (f .0) (f .1)) (verdict a)) refusal
 
 -- The checks of a step let it through exactly when it is free.
 pub free-exactly : (a : Asked) → (firstHit (stepChecks a) ≡ none) ↔ ((s : Step) × Free a s)

@@ -5,9 +5,9 @@ use native.Mathlib.Omega.{arith}
 use mathlib.Core.Path.{_≡_, refl, sym, ap, _∙_}
 use lib.Dec.{eqb}
 use Rattle.rules.specs.Tables.{if_then_else_}
-use Rattle.rules.specs.Replies.{Reason, torn, overtaken, spent, Outcome, ok, value, committed, aborted, Refusal, notWellFormed}
-use Rattle.rules.specs.Replies.{noHandler, noCell, alreadyOpen, notOpen, unknownStep, outOfRange, tooShort, reasonNumber}
-use Rattle.rules.specs.Replies.{refusalNumber, Numbers, outcomeNumbers, refusalNumbers}
+use Rattle.rules.specs.Replies.{Reason, torn, overtaken, spent, Outcome, ok, value, committed, aborted, Refusal}
+use Rattle.rules.specs.Replies.{notWellFormed, noHandler, noCell, alreadyOpen, notOpen, unknownStep, outOfRange}
+use Rattle.rules.specs.Replies.{tooShort, reasonNumber, refusalNumber, Numbers, outcomeNumbers, refusalNumbers}
 
 -- Different things have different images.
 abbrev pub Injective : {A B : Type 0} → (A → B) → Type 0
@@ -35,12 +35,14 @@ outcomeOf n =
     if eqb (n .kind) 0 then ok else (if eqb (n .kind) 1 then (value (n .detail))
     else (if eqb (n .kind) 2 then committed else (aborted (reasonOf (n .detail)))))
 
+-- A reason comes back from its number.
 reason-back : (reason : Reason) → reasonOf (reasonNumber reason) ≡ reason
 unfolding reasonOf
 reason-back torn = refl
 reason-back overtaken = refl
 reason-back spent = refl
 
+-- A refusal comes back from its number.
 refusal-back : (refusal : Refusal) → refusalOf (refusalNumber refusal) ≡ refusal
 unfolding refusalOf
 refusal-back notWellFormed = refl
@@ -52,6 +54,7 @@ refusal-back unknownStep = refl
 refusal-back outOfRange = refl
 refusal-back tooShort = refl
 
+-- An outcome comes back from its numbers.
 outcome-back : (outcome : Outcome ℕ) → outcomeOf (outcomeNumbers outcome) ≡ outcome
 unfolding outcomeOf
 outcome-back ok = refl

@@ -1,17 +1,13 @@
 -- What a reader expects of the steps: what each leaves alone, and what an abort leaves. Properties are numbered as in PI 1923.
 use Prim.Native.Nat.{ℕ}
 use native.Mathlib.Omega.{arith}
-use mathlib.Core.Path.{_≡_, refl, sym, ap}
-use mathlib.Core.Bool.{_||_}
-use mathlib.Core.Logic.{_↔_}
-use mathlib.Core.Option.{Option, none, some, Option·some-injective, Option·some-ne-none}
+use mathlib.Core.Path.{_≡_, refl}
 use Rattle.rules.specs.Codes.{Step, begin, try, read, write}
-use Rattle.rules.specs.Replies.{Reason, Outcome, ok, committed, aborted}
+use Rattle.rules.specs.Replies.{Reason, Outcome, ok, value, committed, aborted}
 use Rattle.rules.specs.Register.{Setting, Handler, Register, withHandler, idle}
-use Rattle.rules.specs.Figure.{Result, shown, aborting, unlessAborted}
-use Rattle.rules.specs.Figure.{firstRead, reading, trying, step}
-use Rattle.rules.proofs.Tables.{by}
+use Rattle.rules.specs.Figure.{Result, aborting, step}
 use Rattle.rules.proofs.Tables.{put-other}
+use Rattle.rules.proofs.Steps.{reading-cases, trying-cases}
 
 -- ── What a step leaves alone ──────────────────────────────────────────
 
@@ -21,33 +17,36 @@ pub record OneHandler {W : Type 0} (r : Register W) (i : ℕ) (q : Register W) :
   pub others : (j : ℕ) → (j ≡ i → ⊥) → q .handlers j ≡ r .handlers j
 
 module _ {W : Type 0} where
+  -- The same register is so,
   unchanged : (r : Register W) (i : ℕ) → OneHandler r i r
   unchanged r i = record { cells = refl; others = λ j ne. refl }
 
+  -- and so is the register with another handler i.
   one-changed : (r : Register W) (i : ℕ) (h : Handler W) → OneHandler r i (withHandler r i h)
   unfolding withHandler
   one-changed r i h = record { cells = refl; others = λ j ne. put-other (r .handlers) i h j ne }
 
+  -- An answer ok is no abort,
+  ok-no-abort : (reason : Reason) → _≡_ {A = Outcome W} ok (aborted reason) → ⊥
+  ok-no-abort reason e = let z : _≡_ {A = ℕ} 0 1 = cc in omega arith
+
+  -- nor is a commit,
+  pub commit-no-abort : (reason : Reason) → _≡_ {A = Outcome W} committed (aborted reason) → ⊥
+  commit-no-abort reason e = let z : _≡_ {A = ℕ} 0 1 = cc in omega arith
+
+  -- nor is a value.
+  pub value-no-abort : (v : W) (reason : Reason) → value v ≡ aborted reason → ⊥
+  value-no-abort v reason e = let z : _≡_ {A = ℕ} 0 1 = cc in omega arith
+
 module _ {W : Type 0} (S : Setting W) where
-  -- A check that aborts, or a result that changes one handler: in both, one handler changes.
-  aborted-one : (r : Register W) (i : ℕ) (h : Handler W) (o : Option Reason) (result : Result W)
-      → OneHandler r i (result .after) → OneHandler r i (unlessAborted S r i h o result .after)
-  unfolding unlessAborted aborting
-  aborted-one r i h none result one = one
-  aborted-one r i h (some reason) result one = one-changed r i _
-
-  reading-one : (r : Register W) (i : ℕ) (h : Handler W) (x : ℕ) → OneHandler r i (reading S r i h x .after)
-  unfolding reading firstRead
-  reading-one r i h x = by (h .readSet x || h .writtenSet x)
-      (λ e. rw e (unchanged r i))
-      (λ e. rw e (aborted-one r i h _ _ (one-changed r i _)))
-
   -- Begin, read and write change one handler only.
   pub changes-one : (r : Register W) (i : ℕ) (s : Step) (v : W) → (s ≡ try → ⊥) → OneHandler r i (step S r i s v .after)
-  unfolding step
+  unfolding step aborting
   changes-one r i begin v ne = one-changed r i _
   changes-one r i try v ne = absurd (ne refl)
-  changes-one r i (read x) v ne = reading-one r i (r .handlers i) x
+  changes-one r i (read x) v ne =
+      reading-cases S r i (r .handlers i) (λ result. OneHandler r i (result .after)) x
+      (λ copied. unchanged r i) (λ first isTorn. one-changed r i _) (λ first isTaken. one-changed r i _)
   changes-one r i (write x) v ne = one-changed r i _
 
   -- Property 3: no write aborts.
@@ -57,43 +56,22 @@ module _ {W : Type 0} (S : Setting W) where
 
   -- ── What an abort leaves ────────────────────────────────────────────
 
-  -- A transaction is aborted with the reason that the checks say, where the result is no abort itself.
-  pub abort-means : (r : Register W) (i : ℕ) (h : Handler W) (o : Option Reason) (result : Result W) (reason : Reason)
-      → (result .outcome ≡ aborted reason → ⊥) → (unlessAborted S r i h o result .outcome ≡ aborted reason) ↔ (o ≡ some reason)
-  unfolding unlessAborted
-  abort-means r i h none result reason no-abort = (λ e. absurd (no-abort e), λ e. absurd (Option·some-ne-none reason (sym e)))
-  abort-means r i h (some other) result reason no-abort = (λ e. ap some (same e), λ e. ap aborted (Option·some-injective other reason e))
-    where
-      same : _≡_ {A = Outcome W} (aborted other) (aborted reason) → other ≡ reason
-      same e = cc
-
-  ok-no-abort : (reason : Reason) → _≡_ {A = Outcome W} ok (aborted reason) → ⊥
-  ok-no-abort reason e = let z : _≡_ {A = ℕ} 0 1 = cc in omega arith
-
-  pub commit-no-abort : (reason : Reason) → _≡_ {A = Outcome W} committed (aborted reason) → ⊥
-  commit-no-abort reason e = let z : _≡_ {A = ℕ} 0 1 = cc in omega arith
-
-  pub value-no-abort : (h : Handler W) (x : ℕ) (reason : Reason) → shown h x ≡ aborted reason → ⊥
-  unfolding shown
-  value-no-abort h x reason e = let z : _≡_ {A = ℕ} 0 1 = cc in omega arith
-
-  ended : (r : Register W) (i : ℕ) (h : Handler W) (o : Option Reason) (result : Result W) (reason : Reason)
-      → o ≡ some reason → unlessAborted S r i h o result .after ≡ aborting S r i h
-  unfolding unlessAborted
-  ended r i h o result reason e = rw e
-
-  reading-ended : (r : Register W) (i : ℕ) (h : Handler W) (x : ℕ) (reason : Reason)
-      → reading S r i h x .outcome ≡ aborted reason → reading S r i h x .after ≡ aborting S r i h
-  unfolding reading firstRead
-  reading-ended r i h x reason = by (h .readSet x || h .writtenSet x)
-      (λ q. rw q (λ e. absurd (value-no-abort h x reason e)))
-      (λ q. rw q (λ e. ended r i h _ _ reason (abort-means r i h _ _ reason (value-no-abort _ x reason) .0 e)))
+  -- Where a result is an abort, handler i is idle with the numbers that it had, and all else is as before.
+  abbrev EndsIdle : Register W → ℕ → Reason → Result W → Type 0
+  EndsIdle r i reason result =
+      result .outcome ≡ aborted reason → result .after ≡ withHandler r i (idle S (r .handlers i .numbers))
 
   -- An abort ends the transaction and leaves all else as before: the handler is idle with the numbers that it had.
   pub abort-ends : (r : Register W) (i : ℕ) (s : Step) (v : W) (reason : Reason)
       → step S r i s v .outcome ≡ aborted reason → step S r i s v .after ≡ withHandler r i (idle S (r .handlers i .numbers))
-  unfolding step aborting trying
-  abort-ends r i begin v reason e = absurd (ok-no-abort reason e)
-  abort-ends r i (write x) v reason e = absurd (ok-no-abort reason e)
-  abort-ends r i (read x) v reason e = reading-ended r i (r .handlers i) x reason e
-  abort-ends r i try v reason e = ended r i (r .handlers i) _ _ reason (abort-means r i (r .handlers i) _ _ reason (commit-no-abort reason) .0 e)
+  unfolding step aborting
+  abort-ends r i begin v reason = λ e. absurd (ok-no-abort reason e)
+  abort-ends r i (write x) v reason = λ e. absurd (ok-no-abort reason e)
+  abort-ends r i (read x) v reason =
+      reading-cases S r i (r .handlers i) (EndsIdle r i reason) x
+      (λ copied e. absurd (value-no-abort _ reason e))
+      (λ first isTorn e. refl)
+      (λ first isTaken e. absurd (value-no-abort _ reason e))
+  abort-ends r i try v reason =
+      trying-cases S r i (r .handlers i) (EndsIdle r i reason)
+      (λ stale e. refl) (λ current full e. refl) (λ current roomy e. absurd (commit-no-abort reason e))

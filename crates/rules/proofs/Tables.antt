@@ -1,4 +1,5 @@
--- Laws of tests, of what is lowest below a number of places, and of tables.
+-- Laws of tests, of what is lowest below a number of places, and of tables. What is said here of yes and no, of places and of
+-- tables is cited by every other file of laws.
 use Prim.Native.Nat.{ℕ, zero, suc, _≤_, _<_}
 use native.Mathlib.Omega.{arith}
 use mathlib.Core.Path.{_≡_, refl, sym, ap, _∙_, fun-ext, subst}
@@ -20,14 +21,17 @@ by false f g = g refl
 pub both-ways {ℓ} : {A : Type ℓ} {b : Bool} → b ≡ true → b ≡ false → A
 both-ways p q = absurd (true≢false (sym p ∙ q))
 
+-- Where two tests hold together the first holds,
 pub and-left : (a b : Bool) → a && b ≡ true → a ≡ true
 and-left true b e = refl
 and-left false b e = e
 
+-- and the second holds.
 pub and-right : (a b : Bool) → a && b ≡ true → b ≡ true
 and-right true b e = e
 and-right false b e = absurd (false≢true e)
 
+-- Tests that each hold, hold together.
 pub and-both : (a b : Bool) → a ≡ true → b ≡ true → a && b ≡ true
 and-both true b p q = q
 and-both false b p q = p
@@ -40,17 +44,33 @@ and-iff a b = (λ e. (and-left a b e, and-right a b e), λ h. and-both a b (h .0
 pub leb-iff : (a b : ℕ) → (leb a b ≡ true) ↔ (a ≤ b)
 leb-iff a b = (leb-true a b, le-leb a b)
 
+-- Where neither of two tests holds the first does not,
 pub or-left : (a b : Bool) → a || b ≡ false → a ≡ false
 or-left true b e = e
 or-left false b e = refl
 
+-- and the second does not.
 pub or-right : (a b : Bool) → a || b ≡ false → b ≡ false
 or-right true b e = absurd (true≢false e)
 or-right false b e = e
 
-pub or-neither : (a b : Bool) → a ≡ false → b ≡ false → a || b ≡ false
-or-neither true b p q = p
-or-neither false b p q = q
+-- Where one of two tests holds, what follows from each of them follows.
+pub either {ℓ} : {A : Type ℓ} (a b : Bool) → a || b ≡ true → (a ≡ true → A) → (b ≡ true → A) → A
+either true b e f g = f refl
+either false b e f g = g e
+
+-- A test that implies the second of two adds nothing to them.
+pub or-absorb : (a b c : Bool) → (c ≡ true → b ≡ true) → (a || b) || c ≡ a || b
+or-absorb true b c f = refl
+or-absorb false true c f = refl
+or-absorb false false true f = sym (f refl)
+or-absorb false false false f = refl
+
+-- Of three tests the first two may change places.
+pub or-swap : (a b c : Bool) → a || (b || c) ≡ b || (a || c)
+or-swap true true c = refl
+or-swap true false c = refl
+or-swap false b c = refl
 
 -- Tests that imply each other are the same.
 pub same-test : (a b : Bool) → (a ≡ true → b ≡ true) → (b ≡ true → a ≡ true) → a ≡ b
@@ -71,6 +91,7 @@ pub record Lowest (m : ℕ) (test : ℕ → Bool) (y : ℕ) : Type 0 where
   pub passes : test y ≡ true
   pub first : (z : ℕ) → z < y → test z ≡ false
 
+-- Where no lowest place is found, no place passes.
 pub lowest-none : (m : ℕ) (test : ℕ → Bool) → lowest m test ≡ none → (z : ℕ) → z < m → test z ≡ false
 unfolding lowest orElse
 lowest-none zero test e z l = absurd (omega arith)
@@ -80,6 +101,7 @@ lowest-none (suc m) test e z l = found (lowest m test)
     (λ q. absurd (Option·some-ne-none m (rw (f, q) at e)))
     (λ q. by (eqb z m) (λ k. rw (eqb-true z m k) q) (λ k. lowest-none m test f z (omega (arith, eqb-false z m k)))))
 
+-- The lowest place that is found is the lowest one that passes.
 pub lowest-some : (m : ℕ) (test : ℕ → Bool) (y : ℕ) → lowest m test ≡ some y → Lowest m test y
 unfolding lowest orElse
 lowest-some zero test y e = absurd (Option·some-ne-none y (sym e))
@@ -117,12 +139,26 @@ some-none m test h = by (someBelow m test) (λ q. let k = some-true m test q in 
 pub put-each {ℓ} : {A : Type ℓ} (Q : ℕ → A → Type 0) (f : ℕ → A) (i : ℕ) (a : A)
     → Q i a → ((j : ℕ) → (j ≡ i → ⊥) → Q j (f j)) → (j : ℕ) → Q j (put f i a j)
 unfolding put
-put-each Q f i a h g j = by (eqb j i) (λ e. rw e (subst (λ k. Q k a) (sym (eqb-true j i e)) h)) (λ e. rw e (g j (eqb-false j i e)))
+put-each Q f i a h g j = by (eqb j i)
+    (λ e. rw e (subst (λ k. Q k a) (sym (eqb-true j i e)) h))
+    (λ e. rw e (g j (eqb-false j i e)))
 
+-- What holds of three new entries at one place, and of the three tables elsewhere, holds of the tables with the entries put in.
+pub put-three {ℓ ℓ′ ℓ″} : {A : Type ℓ} {B : Type ℓ′} {C : Type ℓ″} (Q : ℕ → A → B → C → Type 0)
+    (f : ℕ → A) (g : ℕ → B) (h : ℕ → C) (i : ℕ) (a : A) (b : B) (c : C)
+    → Q i a b c → ((j : ℕ) → (j ≡ i → ⊥) → Q j (f j) (g j) (h j))
+    → (j : ℕ) → Q j (put f i a j) (put g i b j) (put h i c j)
+unfolding put
+put-three Q f g h i a b c new old j = by (eqb j i)
+    (λ e. rw e (subst (λ k. Q k a b c) (sym (eqb-true j i e)) new))
+    (λ e. rw e (old j (eqb-false j i e)))
+
+-- The place of the new entry holds it,
 pub put-here {ℓ} : {A : Type ℓ} (f : ℕ → A) (i : ℕ) (a : A) → put f i a i ≡ a
 unfolding put
 put-here f i a = rw (eq-eqb i i refl)
 
+-- and every other place holds what it held.
 pub put-other {ℓ} : {A : Type ℓ} (f : ℕ → A) (i : ℕ) (a : A) (j : ℕ) → (j ≡ i → ⊥) → put f i a j ≡ f j
 unfolding put
 put-other f i a j ne = rw (ne-eqb j i ne)

@@ -4,9 +4,10 @@ use native.Mathlib.Omega.{arith}
 use mathlib.Core.Path.{_≡_, sym, ap, _∙_, subst}
 use mathlib.Core.Bool.{Bool}
 use mathlib.Core.Logic.{_↔_, inl, inr}
-use Rattle.rules.specs.Codes.{Step, known}
+use Rattle.rules.specs.Codes.{Step}
 use Rattle.rules.specs.Replies.{Refusal, Report, Reply, reported}
 use Rattle.rules.specs.Register.{Setting, Register}
+use Rattle.rules.specs.Checks.{Asked}
 use Rattle.rules.specs.Given.{Given, Free}
 use Rattle.rules.specs.Figure.{step}
 use Rattle.rules.specs.Turn.{Turn, asked, refusalOf, turned, turn}
@@ -14,27 +15,37 @@ use Rattle.rules.proofs.Given.{Verdict, verdict, given-exactly, free-ex
 
 -- What the turn of a step that is taken is.
 abbrev pub takenTurn : {W : Type 0} → Setting W → Register W → ℕ → ℕ → W → Step → Turn W
-takenTurn S r i code v s =
-    record { reply = reported (record { handler = i; code = code; outcome = step S r i s v .outcome }); after = step S r i s v .after }
+takenTurn S r i code v s = record {
+  reply = reported (record { handler = i; code = code; outcome = step S r i s v .outcome });
+  after = step S r i s v .after;
+}
 
 -- What the turn of a step that is refused is.
 abbrev pub refusedTurn : {W : Type 0} → Register W → Refusal → Turn W
 refusedTurn r refusal = record { reply = Reply.refused refusal; after = r }
 
 module _ {W : Type 0} (S : Setting W) (n : ℕ) (wellFormed : Bool) (r : Register W) (i code : ℕ) (v : W) where
+  -- What is asked.
+  abbrev what : Asked
+  what = asked S n wellFormed r i code
+
+  -- The turn that it gets.
+  abbrev gets : Turn W
+  gets = turn S n wellFormed r i code v
+
   -- A number that is given refuses the step, and nothing is changed.
-  pub given-turn : (refusal : Refusal) → Given refusal (asked S n wellFormed r i code) → turn S n wellFormed r i code v ≡ refusedTurn r refusal
+  pub given-turn : (refusal : Refusal) → Given refusal what → gets ≡ refusedTurn r refusal
   unfolding turn refusalOf turned
-  given-turn refusal g = rw (given-exactly (asked S n wellFormed r i code) refusal .1 g)
+  given-turn refusal g = rw (given-exactly what refusal .1 g)
 
   -- A step that is free is taken.
-  pub free-turn : (s : Step) → Free (asked S n wellFormed r i code) s → turn S n wellFormed r i code v ≡ takenTurn S r i code v s
+  pub free-turn : (s : Step) → Free what s → gets ≡ takenTurn S r i code v s
   unfolding turn refusalOf turned
-  free-turn s f = rw (free-exactly (asked S n wellFormed r i code) .1 (s, f), f .placed .heard .known)
+  free-turn s f = rw (free-exactly what .1 (s, f), f .placed .heard .known)
 
   -- A step is refused with each number exactly when it is given.
-  pub turn-given : (refusal : Refusal) → (turn S n wellFormed r i code v .reply ≡ Reply.refused refusal) ↔ Given refusal (asked S n wellFormed r i code)
-  turn-given refusal = (λ e. decides e (verdict (asked S n wellFormed r i code)), λ g. ap (λ t. t .reply) (given-turn refusal g))
+  pub turn-given : (refusal : Refusal) → (gets .reply ≡ Reply.refused refusal) ↔ Given refusal what
+  turn-given refusal = (λ e. decides e (verdict what), λ g. ap (λ t. t .reply) (given-turn refusal g))
     where
       same : {a b : Refusal} → _≡_ {A = Reply W} (Reply.refused a) (Reply.refused b) → a ≡ b
       same e = cc
@@ -42,20 +53,25 @@ module _ {W : Type 0} (S : Setting W) (n : ℕ) (wellFormed : Bool) (r : Registe
       reports : {report : Report W} → _≡_ {A = Reply W} (reported report) (Reply.refused refusal) → ⊥
       reports e = let z : _≡_ {A = ℕ} 0 1 = cc in omega arith
 
-      decides : turn S n wellFormed r i code v .reply ≡ Reply.refused refusal → Verdict (asked S n wellFormed r i code)
-          → Given refusal (asked S n wellFormed r i code)
-      decides e (inl (other, g)) = subst (λ f. Given f (asked S n wellFormed r i code)) (same (sym (ap (λ t. t .reply) (given-turn other g)) ∙ e)) g
+      decides : gets .reply ≡ Reply.refused refusal → Verdict what → Given refusal what
+      decides e (inl (other, g)) = subst (λ f. Given f what) (same (sym (ap (λ t. t .reply) (given-turn other g)) ∙ e)) g
       decides e (inr (s, f)) = absurd (reports (sym (ap (λ t. t .reply) (free-turn s f)) ∙ e))
 
   -- A refused step changes nothing.
-  pub refused-unchanged : (refusal : Refusal) → turn S n wellFormed r i code v .reply ≡ Reply.refused refusal → turn S n wellFormed r i code v .after ≡ r
+  pub refused-unchanged : (refusal : Refusal) → gets .reply ≡ Reply.refused refusal → gets .after ≡ r
   refused-unchanged refusal e = ap (λ t. t .after) (given-turn refusal (turn-given refusal .0 e))
+
+  -- What holds of every refusal with a number that is given, and of every step that is free and taken, holds of the turn.
+  pub turn-cases : (Q : Turn W → Type 0)
+      → ((refusal : Refusal) → Given refusal what → Q (refusedTurn r refusal))
+      → ((s : Step) → Free what s → Q (takenTurn S r i code v s)) → Q gets
+  turn-cases Q isRefused isTaken = decides (verdict what)
+    where
+      decides : Verdict what → Q gets
+      decides (inl (refusal, given)) = rw (given-turn refusal given) (isRefused refusal given)
+      decides (inr (s, free)) = rw (free-turn s free) (isTaken s free)
 
   -- What holds of a register, and of what every step that is free leaves, holds of what a turn leaves.
   pub turn-leaves : (P : Register W → Type 0) → P r
-      → ((s : Step) → Free (asked S n wellFormed r i code) s → P (step S r i s v .after)) → P (turn S n wellFormed r i code v .after)
-  turn-leaves P stays steps = decides (verdict (asked S n wellFormed r i code))
-    where
-      decides : Verdict (asked S n wellFormed r i code) → P (turn S n wellFormed r i code v .after)
-      decides (inl (refusal, g)) = rw (given-turn refusal g) stays
-      decides (inr (s, free)) = rw (free-turn s free) (steps s free)
+      → ((s : Step) → Free what s → P (step S r i s v .after)) → P (gets .after)
+  turn-leaves P stays steps = turn-cases (λ t. P (t .after)) (λ refusal given. stays) steps

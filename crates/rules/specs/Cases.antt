@@ -1,5 +1,5 @@
--- Document 01's cases K1 to K12 as data: one list of rows. A row has its opening, its steps with the replies that are expected, and
--- the words that are expected at the end. The crate `cases` claims them of the promises, proofs/AllCases.antt of the rules alone.
+-- Document 01's cases K1 to K12 as data: one list of rows. A row has its opening, its steps with the replies that are expected,
+-- and the words that are expected at the end. The crate `cases` claims them of the promises, proofs/AllCases.antt of the rules.
 use Prim.Native.Nat.{ℕ}
 use mathlib.Core.List.{List, [], _∷_, _++_}
 use lib.ListN.{replicate}
@@ -32,18 +32,23 @@ pub record Case : Type 0 where
 
 -- ── How rows are written ──────────────────────────────────────────────
 
+-- The reply ok.
 abbrev ok : Numbers
 ok = record { kind = 0; detail = 0 }
 
+-- A value.
 abbrev value : ℕ → Numbers
 value v = record { kind = 1; detail = v }
 
+-- A commit.
 abbrev commit : Numbers
 commit = record { kind = 2; detail = 0 }
 
+-- An abort with its reason.
 abbrev abort : ℕ → Numbers
 abort reason = record { kind = 3; detail = reason }
 
+-- A refusal with its number.
 abbrev refused : ℕ → Numbers
 refused number = record { kind = 4; detail = number }
 

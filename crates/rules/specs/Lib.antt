@@ -8,4 +8,9 @@ pub mod Checks
 pub mod Given
 pub mod Figure
 pub mod Turn
+pub mod History
+pub mod Past
+pub mod Replay
+pub mod Demand
+pub mod Judge
 pub mod Cases

@@ -1,0 +1,66 @@
+-- The third demand of words, proved: a run of words follows the rules, and the rules keep the demand.
+use Prim.Native.Nat.{ℕ, _+_, _<_}
+use native.Mathlib.Omega.{arith}
+use mathlib.Core.Path.{_≡_, sym, ap, _∙_}
+use mathlib.Core.List.{List}
+use lib.ListN.{getD}
+use Rattle.rules.specs.Register.{blank}
+use Rattle.rules.specs.History.{History}
+use Rattle.rules.specs.Demand.{Ask, Consistent}
+use Rattle.rules.specs.Judge.{Told}
+use Rattle.rules.proofs.ThirdDemand.{third-demand, history-tells}
+use Rattle.layout.specs.Places.{cellStart, cellLong}
+use Rattle.layout.specs.View.{wordSetting, viewCell, view}
+use Rattle.layout.proofs.Rows.{part-at, below-inside, below-is}
+use Rattle.layout.proofs.ViewPour.{view-cell, view-confined}
+use Rattle.promises.specs.Inherits.{cellValues, numberWord, WordsConsistent, WordsInherit}
+use Rattle.promises.proofs.Runs.{FollowsRules, rules-reply, run-follows}
+
+-- ── What the words of the cells say ───────────────────────────────────
+
+module _ (m n : ℕ) (words : List ℕ) where
+  -- A cell's first word is its value.
+  value-said : (x : ℕ) → x < m → getD words (cellStart m x) 0 ≡ view m n words .cells x .value
+  unfolding viewCell
+  value-said x inside =
+      ap (λ place. getD words place 0) (let first : cellStart m x ≡ cellStart m x + 0 = omega arith in first)
+      ∙ sym (part-at (cellStart m x) (cellLong m) words 0 (omega arith))
+      ∙ ap (λ cell. cell .value) (sym (view-cell m n words x inside))
+
+  -- The values that are read off the words are those of the register that the words say.
+  values-said : cellValues m words ≡ (λ x. view m n words .cells x .value)
+  unfolding cellValues blank
+  values-said = below-is m 0 _ _ value-said (λ x beyond. ap (λ cell. cell .value) (view-confined m n words .cells x beyond))
+
+  -- A number that is read off the words is that of the register that the words say.
+  number-said : (x y : ℕ) → x < m → y < m → numberWord m words x y ≡ view m n words .cells x .numbers y
+  unfolding viewCell
+  number-said x y inside below =
+      sym (part-at (cellStart m x) (cellLong m) words (1 + y) (omega arith))
+      ∙ sym (below-inside m 0 _ y below)
+      ∙ ap (λ cell. cell .numbers y) (sym (view-cell m n words x inside))
+
+-- ── What is inherited ─────────────────────────────────────────────────
+
+module _ {m n : ℕ} {asks : List (Ask ℕ)} {words : List ℕ} {h : History ℕ} (follows : FollowsRules m n asks words h) where
+  -- The register that the words say is consistent with the history,
+  consistent : Consistent (wordSetting m) n (view m n words) h
+  consistent = rw (follows .says, follows .history) (third-demand ℕ (wordSetting m) n asks)
+
+  -- and is told by it.
+  told : Told (wordSetting m) n (view m n words) h
+  told = rw (follows .says, follows .history) (history-tells ℕ (wordSetting m) n asks)
+
+  -- So the words are consistent with the history.
+  follows-consistent : WordsConsistent m n words h
+  follows-consistent = record {
+    legal = rw (values-said m n words) (consistent .legal);
+    tornExactly = λ first p. rw (rules-reply follows p) (consistent .tornExactly _ _ _ _ first);
+    replies = λ p. rules-reply follows p ∙ told .replies _ _ _;
+    overtakenExactly = λ inside asks isOpen p. rw (rules-reply follows p) (told .overtakenExactly _ _ _ inside asks isOpen);
+    numbers = λ x y inside below. number-said m n words x y inside below ∙ told .numbers x y;
+  }
+
+-- The third demand of words holds.
+pub words-inherit : WordsInherit
+words-inherit m n asks words h ran = follows-consistent (run-follows ran)

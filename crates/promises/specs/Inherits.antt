@@ -1,0 +1,53 @@
+-- The third demand of words: what is true after every run of words, of the words, of the replies that a next step can get, and
+-- of the history of the replies on the way. No table of the rules is spoken of, only words.
+use Prim.Native.Nat.{ℕ, _+_, _<_}
+use mathlib.Core.Path.{_≡_}
+use mathlib.Core.Bool.{true}
+use mathlib.Core.List.{List}
+use mathlib.Core.Logic.{_↔_}
+use lib.ListN.{getD}
+use Rattle.rules.specs.Codes.{known, try, kindOf}
+use Rattle.rules.specs.Replies.{torn, overtaken, aborted, Reply}
+use Rattle.rules.specs.History.{History, writer}
+use Rattle.rules.specs.Past.{Tears, upTo}
+use Rattle.rules.specs.Replay.{Legal}
+use Rattle.rules.specs.Demand.{Ask, reportedTo, FirstRead}
+use Rattle.rules.specs.Judge.{numberAmong, judgement, Overtaken}
+use Rattle.layout.specs.Rows.{below}
+use Rattle.layout.specs.Places.{cellStart}
+use Rattle.layout.specs.View.{wordSetting}
+use Rattle.promises.specs.Stepping.{StepPromise}
+use Rattle.promises.specs.Runs.{WordRun}
+
+-- The value of each of m cells, which is the first of the cell's words; 0 beyond the cells.
+unfoldable pub cellValues : ℕ → List ℕ → ℕ → ℕ
+cellValues m words = below m 0 (λ x. getD words (cellStart m x) 0)
+
+-- The cell x's number for y, which stands behind the value.
+abbrev pub numberWord : ℕ → List ℕ → ℕ → ℕ → ℕ
+numberWord m words x y = getD words (cellStart m x + (1 + y)) 0
+
+-- Words and a history agree with the third demand:
+pub record WordsConsistent (m n : ℕ) (words : List ℕ) (h : History ℕ) : Type 0 where
+  -- (a) and (b), with the cells' values as the table that the history leads to;
+  pub legal : Legal (wordSetting m) h (cellValues m words)
+  -- (c) a first read is answered abort 1 exactly when the writer of the cell's present value, or a commit in that writer's
+  -- causal past, wrote a later version than one already read;
+  pub tornExactly : {i code x v : ℕ} {reply : Reply ℕ} {after : List ℕ}
+      → FirstRead (wordSetting m) n h i code x → StepPromise words i code v reply after
+      → (reply ≡ reportedTo i code (aborted torn)) ↔ Tears (h .commits) (h .now i) (writer (h .commits) x)
+  -- besides, each reply, refused or reported, is what the history alone tells;
+  pub replies : {i code v : ℕ} {reply : Reply ℕ} {after : List ℕ} → StepPromise words i code v reply after
+      → reply ≡ judgement (wordSetting m) n h i code
+  -- a try is answered abort 2 exactly when a version read is no longer the present one;
+  pub overtakenExactly : {i code v : ℕ} {reply : Reply ℕ} {after : List ℕ} → i < n → kindOf code ≡ known try → h .opened i ≡ true
+      → StepPromise words i code v reply after
+      → (reply ≡ reportedTo i code (aborted overtaken)) ↔ Overtaken (h .commits) (h .now i)
+  -- and a cell's number for y is that of the latest version of y in the cell's writer and that one's past
+  pub numbers : (x y : ℕ) → x < m → y < m
+      → numberWord m words x y ≡ numberAmong (h .commits) (upTo (h .commits) (writer (h .commits) x)) y
+
+-- THE THIRD DEMAND OF WORDS, of every m and n, all words that are opened, and every list of steps.
+abbrev pub WordsInherit : Type 0
+WordsInherit = (m n : ℕ) (asks : List (Ask ℕ)) (words : List ℕ) (h : History ℕ)
+    → WordRun m n asks words h → WordsConsistent m n words h
