@@ -24,8 +24,14 @@ code-read code low high = rw (ne-eqb code 0 (omega arith), ne-eqb code 1 (omega 
 pub code-write : (code : ℕ) → 64 ≤ code → code ≤ 95 → known (write (code - 64)) ≡ kindOf code
 unfolding kindOf
 code-write code low high =
-    rw (ne-eqb code 0 (omega arith), ne-eqb code 1 (omega arith), le-leb 32 code (omega arith), lt-leb code 63 (omega arith),
-    le-leb 64 code low, le-leb code 95 high)
+    rw (
+      ne-eqb code 0 (omega arith),
+      ne-eqb code 1 (omega arith),
+      le-leb 32 code (omega arith),
+      lt-leb code 63 (omega arith),
+      le-leb 64 code low,
+      le-leb code 95 high,
+    )
 
 -- 2 to 31 stand for no step.
 pub code-between : (code : ℕ) → 2 ≤ code → code < 32 → unknown ≡ kindOf code
@@ -37,5 +43,11 @@ code-between code low high =
 pub code-beyond : (code : ℕ) → 95 < code → unknown ≡ kindOf code
 unfolding kindOf
 code-beyond code low =
-    rw (ne-eqb code 0 (omega arith), ne-eqb code 1 (omega arith), le-leb 32 code (omega arith), lt-leb code 63 (omega arith),
-    le-leb 64 code (omega arith), lt-leb code 95 low)
+    rw (
+      ne-eqb code 0 (omega arith),
+      ne-eqb code 1 (omega arith),
+      le-leb 32 code (omega arith),
+      lt-leb code 63 (omega arith),
+      le-leb 64 code (omega arith),
+      lt-leb code 95 low,
+    )

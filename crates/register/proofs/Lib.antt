@@ -2,4 +2,5 @@
 pub mod Codes
 pub mod Refusing
 pub mod Opening
+pub mod Taking
 pub mod Stepping

@@ -1,5 +1,5 @@
 -- `register::open` meets its promise: 20, 21, or a fresh register in front of the words.
-use Prim.Native.Nat.{ℕ, _-_}
+use Prim.Native.Nat.{_-_}
 use mathlib.Core.Path.{_≡_, sym, _∙_, subst}
 use mathlib.Core.Bool.{true}
 use native.Mathlib.Omega.{arith}
@@ -22,7 +22,9 @@ ranged c = sym (c .before .in-range .ensures) ∙ not-false _ (c .if1 .left)
 -- What was cleared is the register's words behind the first two.
 cleared : (c : tie.After-clear) → let entry = c .before .before .before .before .before .before .before in
     Changed 2 (size (entry .args .m) (entry .args .n) - 2) zeros (entry .args .words .now) (c .clear .last .0)
-cleared c = subst (λ need. Changed 2 (need - 2) zeros _ _) (c .before .before .before .words-for .ensures) (c .clear .ensures)
+cleared c =
+    let words = c .before .before .before .before .before .before .before .args .words .now in
+    subst (λ need. Changed 2 (need - 2) zeros words (c .clear .last .0)) (c .before .before .before .words-for .ensures) (c .clear .ensures)
 
 pub open-spec : {M : Type 1} → statement M
 open-spec =

@@ -1,0 +1,38 @@
+-- A step that is taken, by the kind of its code: what is known of one step with that kind is known of all.
+use Prim.Native.Nat.{ℕ}
+use mathlib.Core.Path.{_≡_, subst}
+use mathlib.Core.List.{List}
+use Rattle.rules.specs.Codes.{Step, begin, try, read, Kind, known}
+use Rattle.rules.specs.Replies.{Outcome}
+use Rattle.rules.specs.Figure.{step}
+use Rattle.turns.specs.Takes.{Ready, Takes}
+
+-- The kind of a code stands for one step.
+one-step : {kind : Kind} {s t : Step} → kind ≡ known s → kind ≡ known t → s ≡ t
+one-step {kind} {s} {t} p q = cc
+
+module _ {words : List ℕ} {i : ℕ} {kind : Kind} where
+  -- What is ready for the step of the kind is ready for this one.
+  pub ready-for : {m : ℕ} → (s : Step) × (kind ≡ known s) × Ready words m i s → (t : Step) → kind ≡ known t → Ready words m i t
+  ready-for {m} (s, e, ready) t f = subst (Ready words m i) (one-step e f) ready
+
+  -- What has taken this step has taken that of the kind.
+  pub takes-for : {value : ℕ} {outcome : Outcome ℕ} {after : List ℕ} (t : Step) → kind ≡ known t → Takes words i t value outcome after
+      → (s : Step) → kind ≡ known s → Takes words i s value outcome after
+  takes-for {value} {outcome} {after} t e takes s f = subst (λ q. Takes words i q value outcome after) (one-step e f) takes
+
+module _ {words : List ℕ} {i value : ℕ} {outcome : Outcome ℕ} {after : List ℕ} where
+  -- A begin takes no value.
+  pub begin-any : Takes words i begin 0 outcome after → Takes words i begin value outcome after
+  unfolding step
+  begin-any takes = record { replied = takes .replied; left = takes .left }
+
+  -- A try takes no value.
+  pub try-any : Takes words i try 0 outcome after → Takes words i try value outcome after
+  unfolding step
+  try-any takes = record { replied = takes .replied; left = takes .left }
+
+  -- A read takes no value.
+  pub read-any : {x : ℕ} → Takes words i (read x) 0 outcome after → Takes words i (read x) value outcome after
+  unfolding step
+  read-any takes = record { replied = takes .replied; left = takes .left }
