@@ -42,15 +42,20 @@ fn needed(m: u32, n: u32) {
 }
 
 fn main() {
-    let mut small = [7u32; 17];
-    opened(&mut small, 2, 1);
-    opened(&mut small[..16], 2, 1);
-    let mut large = [7u32; 2642];
-    opened(&mut large, 32, 16);
-    opened(&mut large[..2641], 32, 16);
-    opened(&mut large, 33, 1);
-    opened(&mut large, 32, 17);
-    opened(&mut large, 0, 1);
+    let mut enough = [7u32; 17];
+    opened(&mut enough, 2, 1);
+    let mut short = [7u32; 16];
+    opened(&mut short, 2, 1);
+    let mut largest = [7u32; 2642];
+    opened(&mut largest, 32, 16);
+    let mut shorter = [7u32; 2641];
+    opened(&mut shorter, 32, 16);
+    let mut cells = [7u32; 2642];
+    opened(&mut cells, 33, 1);
+    let mut handlers = [7u32; 2642];
+    opened(&mut handlers, 32, 17);
+    let mut none = [7u32; 2642];
+    opened(&mut none, 0, 1);
     needed(1, 1);
     needed(2, 1);
     needed(32, 16);

@@ -1,0 +1,24 @@
+-- `gateway::zidlemowo_open` meets its promise: the register's, with its reply as a number.
+use mathlib.Core.Path.{sym, ap, _∙_}
+use borrow.Author.Needs.{needs}
+use Rattle.replies.specs.Meaning.{openingOf}
+use Rattle.gateway.specs.Packed.{openingNumber}
+use Rattle.gateway.proofs.zidlemowo_open.Statement.{statement}
+use Rattle.gateway.proofs.zidlemowo_open.Tie as tie
+
+pub zidlemowo-open-spec : {M : Type 1} → statement M
+zidlemowo-open-spec =
+    tie.close
+    (tie.spec
+    (λ c κs. search needs)
+    (λ c. search needs)
+    (λ c. search needs)
+    (λ c κs. search needs)
+    (λ c. search needs)
+    -- ready
+    (λ c. let opens = c .before .before .before .before .«open» in
+    record { reply = _; replied = ap (λ answer. openingNumber (openingOf answer)) (sym (c .enum-told .given .1)); opens = opens .ensures })
+    (λ c. search needs)
+    -- refused
+    (λ c. let opens = c .before .before .before .before .before .before .«open» in
+    record { reply = _; replied = c .refusal-number .ensures ∙ ap (λ answer. openingNumber (openingOf answer)) (sym (c .before .before .refusal .given .1)); opens = opens .ensures }))
