@@ -1,1 +1,2 @@
--- Laws of packed replies.
+-- Laws of the exported functions' promises.
+pub mod Tight

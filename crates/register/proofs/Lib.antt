@@ -4,3 +4,4 @@ pub mod Refusing
 pub mod Opening
 pub mod Taking
 pub mod Stepping
+pub mod Tight
