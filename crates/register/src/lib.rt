@@ -34,7 +34,7 @@ pub enum Needed {
 }
 
 // The kind of a step code.
-fn kind_of(code: u32) -> Kind
+pub fn kind_of(code: u32) -> Kind
     ensures { λ r. ⌜ kindIs r ≡ kindOf code ⌝ }
 {
     match code {
