@@ -1,0 +1,68 @@
+-- Which bytes are a schedule file, as a proposition in document 01's words and as a test; proofs/Sounds.antt shows that the test
+-- answers exactly the proposition.
+use Prim.Native.Nat.{ℕ, zero, suc, _+_, _≤_, _<_}
+use mathlib.Core.Path.{_≡_}
+use mathlib.Core.Bool.{Bool, _&&_}
+use mathlib.Core.List.{List}
+use lib.ListN.{length}
+use lib.Dec.{eqb, leb}
+use Rattle.rules.specs.Checks.{inRange}
+use Rattle.rules.specs.Given.{InRange}
+use Rattle.layout.specs.WellFormed.{everyBelow}
+use Rattle.schedule.specs.Bytes.{byteAt, Table, tableEnd, offsetOf, lengthOf, bodyOf}
+
+-- Byte 0 is n.
+abbrev pub handlersIn : List ℕ → ℕ
+handlersIn file = byteAt file 0
+
+-- Byte 1 is m.
+abbrev pub cellsIn : List ℕ → ℕ
+cellsIn file = byteAt file 1
+
+-- Then the table of contents, of n + 1 entries.
+abbrev pub tableIn : List ℕ → Table
+tableIn file = record { start = 2; entries = handlersIn file + 1 }
+
+-- Entries 0 to n − 1 are the scripts of handlers 0 to n − 1,
+abbrev pub scriptIn : List ℕ → ℕ → List ℕ
+scriptIn file handler = bodyOf file (tableIn file) handler
+
+-- the last is the order.
+abbrev pub orderIn : List ℕ → List ℕ
+orderIn file = bodyOf file (tableIn file) (handlersIn file)
+
+-- ── The proposition ───────────────────────────────────────────────────
+
+-- Where body k has to begin: the first directly after the table, each next where the one before ends.
+unfoldable pub dueAt : List ℕ → Table → ℕ → ℕ
+dueAt file table zero = tableEnd table
+dueAt file table (suc k) = offsetOf file table k + lengthOf file table k
+
+-- A sound table: it lies in the file, its bodies follow it in table order with no gaps, an empty one too, and the last ends the
+-- file.
+pub record SoundTable (file : List ℕ) (table : Table) : Type 0 where
+  pub whole : tableEnd table ≤ length file
+  pub placed : (k : ℕ) → k < table .entries → offsetOf file table k ≡ dueAt file table k
+  pub ends : dueAt file table (table .entries) ≡ length file
+
+-- A sound file: at most 65,535 bytes, n is 1 to 16, m is 1 to 32, and the table is sound.
+pub record SoundFile (file : List ℕ) : Type 0 where
+  pub short : length file ≤ 65535
+  pub range : InRange (cellsIn file) (handlersIn file)
+  pub table : SoundTable file (tableIn file)
+
+-- ── The test ──────────────────────────────────────────────────────────
+
+-- Body k begins where it has to.
+unfoldable pub isPlaced : List ℕ → Table → ℕ → Bool
+isPlaced file table k = eqb (offsetOf file table k) (dueAt file table k)
+
+-- The table is sound.
+unfoldable pub isSoundTable : List ℕ → Table → Bool
+isSoundTable file table =
+    leb (tableEnd table) (length file)
+    && (everyBelow (table .entries) (isPlaced file table) && eqb (dueAt file table (table .entries)) (length file))
+
+-- The file is sound.
+unfoldable pub isSoundFile : List ℕ → Bool
+isSoundFile file = leb (length file) 65535 && (inRange (cellsIn file) (handlersIn file) && isSoundTable file (tableIn file))
