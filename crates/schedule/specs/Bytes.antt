@@ -16,27 +16,18 @@ shortAt bytes place = 256 * byteAt bytes place + byteAt bytes (place + 1)
 unfoldable pub longAt : List ℕ → ℕ → ℕ
 longAt bytes place = 65536 * shortAt bytes place + shortAt bytes (place + 2)
 
--- A table of contents: where it starts, and how many entries it has.
-pub record Table : Type 0 where
-  pub start : ℕ
-  pub entries : ℕ
+-- Where entry k of a table lies: each entry is a 16-bit offset and a 16-bit length.
+abbrev pub entryAt : ℕ → ℕ → ℕ
+entryAt start k = start + 4 * k
 
--- Where entry k lies: each entry is a 16-bit offset and a 16-bit length.
-abbrev pub entryStart : Table → ℕ → ℕ
-entryStart table k = table .start + 4 * k
-
--- Where the table ends.
-abbrev pub tableEnd : Table → ℕ
-tableEnd table = entryStart table (table .entries)
-
--- The offset of entry k.
-abbrev pub offsetOf : List ℕ → Table → ℕ → ℕ
-offsetOf file table k = shortAt file (entryStart table k)
+-- The offset of entry k of the table that starts there.
+abbrev pub offsetOf : List ℕ → ℕ → ℕ → ℕ
+offsetOf file start k = shortAt file (entryAt start k)
 
 -- The length of entry k.
-abbrev pub lengthOf : List ℕ → Table → ℕ → ℕ
-lengthOf file table k = shortAt file (entryStart table k + 2)
+abbrev pub lengthOf : List ℕ → ℕ → ℕ → ℕ
+lengthOf file start k = shortAt file (entryAt start k + 2)
 
 -- The body of entry k, a part of the file.
-abbrev pub bodyOf : List ℕ → Table → ℕ → List ℕ
-bodyOf file table k = part (offsetOf file table k) (lengthOf file table k) file
+abbrev pub bodyOf : List ℕ → ℕ → ℕ → List ℕ
+bodyOf file start k = part (offsetOf file start k) (lengthOf file start k) file

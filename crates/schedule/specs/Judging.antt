@@ -1,7 +1,7 @@
 -- The judgement of a file, before its first step: sound with n and m, or refused. File: 30, 15.
 use Prim.Native.Nat.{ℕ, _<_}
 use mathlib.Core.Path.{_≡_}
-use mathlib.Core.Bool.{true, not}
+use mathlib.Core.Bool.{Bool, true, not}
 use mathlib.Core.List.{List, [], _∷_}
 use mathlib.Core.Option.{Option, none, some}
 use Rattle.rules.specs.Replies.{Refusal, badFile, unknownStep}
@@ -15,11 +15,15 @@ pub data Judgement : Type 0 where
   sound : ℕ → ℕ → Judgement
   refused : Refusal → Judgement
 
--- 30 where the file is not sound, 15 where some script is not whole, whether it is ordered or not.
+-- Each script is whole, whether it is ordered or not.
+abbrev pub allWhole : List ℕ → Bool
+allWhole file = everyBelow (handlersIn file) (λ handler. isWhole (scriptIn file handler))
+
+-- 30 where the file is not sound, 15 where some script is not whole.
 unfoldable pub fileChecks : List ℕ → List (Check Refusal)
 fileChecks file =
     (badFile when not (isSoundFile file)) ∷
-    (unknownStep when not (everyBelow (handlersIn file) (λ handler. isWhole (scriptIn file handler)))) ∷ []
+    (unknownStep when not (allWhole file)) ∷ []
 
 -- What the checks of a file say of it.
 unfoldable pub fileRefusal : List ℕ → Option Refusal

@@ -7,3 +7,5 @@ pub mod Finding
 pub mod Taking
 pub mod Runs
 pub mod Lines
+pub mod Meaning
+pub mod Fronts

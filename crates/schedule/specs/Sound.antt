@@ -9,7 +9,7 @@ use lib.Dec.{eqb, leb}
 use Rattle.rules.specs.Checks.{inRange}
 use Rattle.rules.specs.Given.{InRange}
 use Rattle.layout.specs.WellFormed.{everyBelow}
-use Rattle.schedule.specs.Bytes.{byteAt, Table, tableEnd, offsetOf, lengthOf, bodyOf}
+use Rattle.schedule.specs.Bytes.{byteAt, entryAt, offsetOf, lengthOf, bodyOf}
 
 -- Byte 0 is n.
 abbrev pub handlersIn : List ℕ → ℕ
@@ -19,50 +19,56 @@ handlersIn file = byteAt file 0
 abbrev pub cellsIn : List ℕ → ℕ
 cellsIn file = byteAt file 1
 
--- Then the table of contents, of n + 1 entries.
-abbrev pub tableIn : List ℕ → Table
-tableIn file = record { start = 2; entries = handlersIn file + 1 }
+-- Then the table of contents,
+abbrev pub tableStart : ℕ
+tableStart = 2
+
+-- of n + 1 entries.
+abbrev pub entriesIn : List ℕ → ℕ
+entriesIn file = handlersIn file + 1
 
 -- Entries 0 to n − 1 are the scripts of handlers 0 to n − 1,
 abbrev pub scriptIn : List ℕ → ℕ → List ℕ
-scriptIn file handler = bodyOf file (tableIn file) handler
+scriptIn file handler = bodyOf file tableStart handler
 
 -- the last is the order.
 abbrev pub orderIn : List ℕ → List ℕ
-orderIn file = bodyOf file (tableIn file) (handlersIn file)
+orderIn file = bodyOf file tableStart (handlersIn file)
 
 -- ── The proposition ───────────────────────────────────────────────────
 
 -- Where body k has to begin: the first directly after the table, each next where the one before ends.
-unfoldable pub dueAt : List ℕ → Table → ℕ → ℕ
-dueAt file table zero = tableEnd table
-dueAt file table (suc k) = offsetOf file table k + lengthOf file table k
+unfoldable pub dueAt : List ℕ → ℕ → ℕ → ℕ → ℕ
+dueAt file start entries zero = entryAt start entries
+dueAt file start entries (suc k) = offsetOf file start k + lengthOf file start k
 
--- A sound table: it lies in the file, its bodies follow it in table order with no gaps, an empty one too, and the last ends the
--- file.
-pub record SoundTable (file : List ℕ) (table : Table) : Type 0 where
-  pub whole : tableEnd table ≤ length file
-  pub placed : (k : ℕ) → k < table .entries → offsetOf file table k ≡ dueAt file table k
-  pub ends : dueAt file table (table .entries) ≡ length file
+-- A sound table, by where it starts and how many entries it has: it lies in the file, its bodies follow it in table order with
+-- no gaps, an empty one too, and the last ends the file.
+pub record SoundTable (file : List ℕ) (start entries : ℕ) : Type 0 where
+  pub whole : entryAt start entries ≤ length file
+  pub placed : (k : ℕ) → k < entries → offsetOf file start k ≡ dueAt file start entries k
+  pub ends : dueAt file start entries entries ≡ length file
 
 -- A sound file: at most 65,535 bytes, n is 1 to 16, m is 1 to 32, and the table is sound.
 pub record SoundFile (file : List ℕ) : Type 0 where
   pub short : length file ≤ 65535
   pub range : InRange (cellsIn file) (handlersIn file)
-  pub table : SoundTable file (tableIn file)
+  pub table : SoundTable file tableStart (entriesIn file)
 
 -- ── The test ──────────────────────────────────────────────────────────
 
 -- Body k begins where it has to.
-unfoldable pub isPlaced : List ℕ → Table → ℕ → Bool
-isPlaced file table k = eqb (offsetOf file table k) (dueAt file table k)
+unfoldable pub isPlaced : List ℕ → ℕ → ℕ → ℕ → Bool
+isPlaced file start entries k = eqb (offsetOf file start k) (dueAt file start entries k)
 
 -- The table is sound.
-unfoldable pub isSoundTable : List ℕ → Table → Bool
-isSoundTable file table =
-    leb (tableEnd table) (length file)
-    && (everyBelow (table .entries) (isPlaced file table) && eqb (dueAt file table (table .entries)) (length file))
+unfoldable pub isSoundTable : List ℕ → ℕ → ℕ → Bool
+isSoundTable file start entries =
+    leb (entryAt start entries) (length file)
+    && (everyBelow entries (isPlaced file start entries) && eqb (dueAt file start entries entries) (length file))
 
 -- The file is sound.
 unfoldable pub isSoundFile : List ℕ → Bool
-isSoundFile file = leb (length file) 65535 && (inRange (cellsIn file) (handlersIn file) && isSoundTable file (tableIn file))
+isSoundFile file =
+    leb (length file) 65535
+    && (inRange (cellsIn file) (handlersIn file) && isSoundTable file tableStart (entriesIn file))

@@ -5,8 +5,8 @@ use mathlib.Core.Bool.{Bool, _||_}
 use mathlib.Core.List.{List, [], _∷_}
 use mathlib.Core.Option.{Option, none, some}
 use lib.Dec.{leb, ltb}
-use lib.ListN.{length, drop}
-use Rattle.rules.specs.Tables.{if_then_else_, put}
+use lib.ListN.{length, getD, set, drop, replicate}
+use Rattle.rules.specs.Tables.{if_then_else_}
 use Rattle.rules.specs.Codes.{kindOf}
 use Rattle.rules.specs.Replies.{Refusal, badFile, noHandler, usedUp, unknownStep}
 use Rattle.rules.specs.Checks.{Check, _when_, firstHit, isUnknown}
@@ -14,13 +14,17 @@ use Rattle.schedule.specs.Bytes.{byteAt}
 use Rattle.schedule.specs.Sound.{handlersIn, scriptIn, orderIn, isSoundFile}
 use Rattle.schedule.specs.Scripts.{ScriptStep, valueLong, firstStep}
 
--- Cursors: of each handler the place in its body up to which its script is used up.
+-- Cursors: of each handler, in a row, the place in its body up to which its script is used up.
 abbrev pub Cursors : Type 0
-Cursors = ℕ → ℕ
+Cursors = List ℕ
+
+-- The cursor of a handler.
+abbrev pub cursorOf : Cursors → ℕ → ℕ
+cursorOf cursors handler = getD cursors handler 0
 
 -- Before the first order place nothing is used up.
 abbrev pub atStart : Cursors
-atStart handler = 0
+atStart = replicate 16 0
 
 -- What comes next at an order place.
 pub data Next : Type 0 where
@@ -35,7 +39,7 @@ pub data Next : Type 0 where
 
 -- The bytes of a handler's script that are not used up.
 abbrev pub leftOf : List ℕ → Cursors → ℕ → List ℕ
-leftOf file cursors handler = drop (cursors handler) (scriptIn file handler)
+leftOf file cursors handler = drop (cursorOf cursors handler) (scriptIn file handler)
 
 -- How many bytes the step at the front of some bytes takes.
 abbrev pub stepLong : List ℕ → ℕ
@@ -45,12 +49,13 @@ stepLong bytes = 1 + valueLong (kindOf (byteAt bytes 0))
 abbrev pub isSpoilt : List ℕ → Bool
 isSpoilt bytes = isUnknown (kindOf (byteAt bytes 0)) || ltb (length bytes) (stepLong bytes)
 
--- 11 for handler n or above, 32 where its script is used up. 15 where no step stands there, as in no file that is judged sound.
+-- 32 where nothing is left. 15 where no step stands in front, as is so nowhere in a run of a file that is judged sound.
+unfoldable pub leftChecks : List ℕ → List (Check Refusal)
+leftChecks left = (usedUp when leb (length left) 0) ∷ (unknownStep when isSpoilt left) ∷ []
+
+-- 11 for handler n or above, then what its script leaves.
 unfoldable pub placeChecks : List ℕ → Cursors → ℕ → List (Check Refusal)
-placeChecks file cursors handler =
-    (noHandler when leb (handlersIn file) handler) ∷
-    (usedUp when leb (length (leftOf file cursors handler)) 0) ∷
-    (unknownStep when isSpoilt (leftOf file cursors handler)) ∷ []
+placeChecks file cursors handler = (noHandler when leb (handlersIn file) handler) ∷ leftChecks (leftOf file cursors handler)
 
 -- What the checks of an order place come to.
 unfoldable pub answered : List ℕ → Cursors → ℕ → Option Refusal → Next
@@ -72,7 +77,8 @@ unfoldable pub cursorsAfter : Cursors → Next → Cursors
 cursorsAfter cursors (rejected refusal) = cursors
 cursorsAfter cursors over = cursors
 cursorsAfter cursors (refused handler refusal) = cursors
-cursorsAfter cursors (taken handler step) = put cursors handler (cursors handler + (1 + valueLong (kindOf (step .code))))
+cursorsAfter cursors (taken handler step) =
+    set cursors handler (cursorOf cursors handler + (1 + valueLong (kindOf (step .code))))
 
 -- The promise of a next step, and of the cursors afterwards.
 pub record NextPromise (file : List ℕ) (cursors : Cursors) (place : ℕ) (reply : Next) (after : Cursors) : Type 0 where
