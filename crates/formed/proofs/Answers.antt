@@ -18,7 +18,7 @@ use Rattle.formed.proofs.Gathers.{EachBelow, faults-both}
 use Rattle.formed.proofs.Parts.{Fit}
 
 -- A test that cannot hold answers no.
-answers-no : (test : Bool) → (test ≡ true → ⊥) → false ≡ test
+pub answers-no : (test : Bool) → (test ≡ true → ⊥) → false ≡ test
 answers-no test never = by test (λ e. absurd (never e)) sym
 
 -- What is not in range is answered with no.

@@ -25,7 +25,7 @@ pub struct Report {
     pub outcome: Outcome,
 }
 
-// Why a step or an opening is refused.
+// Why a step, an opening, a schedule file or an order place is refused.
 pub enum Refusal {
     NotWellFormed,
     NoHandler,
@@ -35,6 +35,8 @@ pub enum Refusal {
     UnknownStep,
     OutOfRange,
     TooShort,
+    BadFile,
+    UsedUp,
 }
 
 // The answer to a step.
@@ -73,5 +75,7 @@ pub fn refusal_number(refusal: Refusal) -> u32
         Refusal::UnknownStep => 15,
         Refusal::OutOfRange => 20,
         Refusal::TooShort => 21,
+        Refusal::BadFile => 30,
+        Refusal::UsedUp => 32,
     }
 }

@@ -1,0 +1,8 @@
+-- Laws of the schedule file, in the order in which they are best read.
+pub mod Sounds
+pub mod Wholes
+pub mod Judges
+pub mod Finds
+pub mod Takes
+pub mod Nexts
+pub mod Tight

@@ -1,0 +1,23 @@
+-- `schedule::scripts::step_bytes` meets its contract: the kind of the code decides.
+use mathlib.Core.Path.{sym, ap, _∙_}
+use borrow.Author.Needs.{needs}
+use Rattle.register.specs.Kinds.{kindIs}
+use Rattle.schedule.specs.Fronts.{stepBytes}
+use Rattle.schedule.proofs.scripts.step_bytes.Statement.{statement}
+use Rattle.schedule.proofs.scripts.step_bytes.Tie as tie
+
+pub step-bytes-spec : {M : Type 1} → statement M
+step-bytes-spec =
+    tie.close
+    (tie.spec
+    (λ c κs. search needs)
+    (λ c. search needs)
+    (λ c. search needs)
+    (λ c. search needs)
+    (λ c. search needs)
+    (λ c. search needs)
+    (λ c. ap stepBytes (ap kindIs (sym (c .enum-told .given .1)) ∙ c .before .before .kind-of .ensures))
+    (λ c. ap stepBytes (ap kindIs (sym (c .enum-told2 .given .1)) ∙ c .before .before .kind-of .ensures))
+    (λ c. ap stepBytes (ap kindIs (sym (c .enum-told3 .given .1)) ∙ c .before .before .kind-of .ensures))
+    (λ c. ap stepBytes (ap kindIs (sym (c .enum-told4 .given .1)) ∙ c .before .before .kind-of .ensures))
+    (λ c. ap stepBytes (ap kindIs (sym (c .enum-told5 .given .1)) ∙ c .before .before .kind-of .ensures)))

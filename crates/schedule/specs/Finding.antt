@@ -1,0 +1,32 @@
+-- A handler's script, asked for by the handler: its body as the very part of the file, and beside it the answer that tells found,
+-- 30 and 11 apart. Codes are not judged here.
+use Prim.Native.Nat.{ℕ}
+use mathlib.Core.Path.{_≡_}
+use mathlib.Core.Bool.{not}
+use mathlib.Core.List.{List, [], _∷_}
+use mathlib.Core.Option.{Option, none, some}
+use lib.Dec.{leb}
+use Rattle.rules.specs.Replies.{Refusal, badFile, noHandler}
+use Rattle.rules.specs.Checks.{Check, _when_, firstHit}
+use Rattle.schedule.specs.Sound.{handlersIn, scriptIn, isSoundFile}
+
+-- 30 where the file is not sound, 11 for handler n or above.
+unfoldable pub scriptChecks : List ℕ → ℕ → List (Check Refusal)
+scriptChecks file handler = (badFile when not (isSoundFile file)) ∷ (noHandler when leb (handlersIn file) handler) ∷ []
+
+-- What the checks say of a handler that is asked for; none where its script is found.
+unfoldable pub scriptRefusal : List ℕ → ℕ → Option Refusal
+scriptRefusal file handler = firstHit (scriptChecks file handler)
+
+-- The part that is given back: with a refusal it is empty.
+unfoldable pub foundPart : List ℕ → ℕ → Option Refusal → List ℕ
+foundPart file handler none = scriptIn file handler
+foundPart file handler (some refusal) = []
+
+-- The promise of a script: the part of the file.
+pub record ScriptPromise (file : List ℕ) (handler : ℕ) (found : List ℕ) : Type 0 where
+  pub given : found ≡ foundPart file handler (scriptRefusal file handler)
+
+-- The promise of the answer beside it.
+pub record AnswerPromise (file : List ℕ) (handler : ℕ) (reply : Option Refusal) : Type 0 where
+  pub replied : reply ≡ scriptRefusal file handler

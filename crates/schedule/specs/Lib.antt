@@ -1,0 +1,11 @@
+-- The schedule file, in the order in which it is best read.
+pub mod Bytes
+pub mod Sound
+pub mod Scripts
+pub mod Judging
+pub mod Finding
+pub mod Taking
+pub mod Runs
+pub mod Lines
+pub mod Meaning
+pub mod Fronts

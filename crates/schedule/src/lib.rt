@@ -1,0 +1,117 @@
+// The schedule file: its judgement, a handler's script as a part of it, and the next step at an order place.
+// PUBLIC: nothing here has a `requires`. Each promise fixes the reply for every file, whatever its bytes and its length.
+mod judging;
+mod scripts;
+mod table;
+mod taking;
+
+ghost use mathlib.Core.Path.{_≡_};
+ghost use Rattle.schedule.specs.Judging.{JudgePromise};
+ghost use Rattle.schedule.specs.Finding.{ScriptPromise, AnswerPromise};
+ghost use Rattle.schedule.specs.Taking.{atStart, NextPromise};
+ghost use Rattle.schedule.specs.Meaning.{judgementIs, foundIs, nextIs};
+use crate::judging::sound_file;
+use crate::judging::whole_scripts;
+use crate::table::body;
+use crate::taking::Order;
+use crate::taking::named_step;
+use crate::taking::order_byte;
+use replies::Refusal;
+
+// The judgement of a file: sound, with n and m, or refused.
+pub enum Judged {
+    Sound { handlers: u32, cells: u32 },
+    Rejected(Refusal),
+}
+
+// Whether a handler's script is found.
+pub enum Found {
+    Script,
+    Missing(Refusal),
+}
+
+// Of each handler, the place in its script up to which it is used up.
+pub struct Cursors {
+    pub at: [usize; 16],
+}
+
+// What comes next at an order place.
+pub enum Next {
+    Rejected(Refusal),
+    Over,
+    Refused { handler: u32, refusal: Refusal },
+    Taken { handler: u32, code: u32, value: u32 },
+}
+
+// What comes next, and the cursors afterwards.
+pub struct Step {
+    pub next: Next,
+    pub cursors: Cursors,
+}
+
+// Judges a file, before its first step.
+pub fn judge_file(file: &[u8]) -> Judged
+    ensures { λ r. ⌜ JudgePromise (now (file .entry)) (judgementIs r) ⌝ }
+{
+    if !sound_file(file) {
+        return Judged::Rejected(Refusal::BadFile);
+    }
+    if !whole_scripts(file) {
+        return Judged::Rejected(Refusal::UnknownStep);
+    }
+    Judged::Sound {
+        handlers: file[0] as u32,
+        cells: file[1] as u32,
+    }
+}
+
+// Whether a handler's script is found, or why not.
+pub fn script_answer(file: &[u8], handler: u32) -> Found
+    ensures { λ r. ⌜ AnswerPromise (now (file .entry)) handler (foundIs r) ⌝ }
+{
+    if !sound_file(file) {
+        return Found::Missing(Refusal::BadFile);
+    }
+    let n = file[0] as u32;
+    if n <= handler {
+        return Found::Missing(Refusal::NoHandler);
+    }
+    Found::Script
+}
+
+// A handler's script, as the very part of the file; empty where it is not found.
+pub fn script(file: &[u8], handler: u32) -> &[u8]
+    ensures { λ r. ⌜ ScriptPromise (now (file .entry)) handler (now r) ⌝ }
+{
+    match script_answer(file, handler) {
+        Found::Script => {
+            let k = handler as usize;
+            body(file, 2, k)
+        }
+        Found::Missing(_) => &file[0..0],
+    }
+}
+
+// No step is used up.
+pub fn at_start() -> Cursors
+    ensures { λ r. ⌜ r .at ≡ atStart ⌝ }
+{
+    Cursors { at: [0; 16] }
+}
+
+// The next step at an order place.
+pub fn next_step(file: &[u8], cursors: Cursors, place: usize) -> Step
+    ensures { λ r. ⌜ NextPromise (now (file .entry)) (cursors .at) place (nextIs (r .next)) (r .cursors .at) ⌝ }
+{
+    match order_byte(file, place) {
+        Order::Rejected => Step {
+            next: Next::Rejected(Refusal::BadFile),
+            cursors,
+        },
+        Order::Over => Step {
+            next: Next::Over,
+            cursors,
+        },
+        Order::Names(handler) => named_step(file, cursors, handler),
+    }
+}

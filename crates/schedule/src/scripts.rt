@@ -1,0 +1,76 @@
+// The steps of a script: whether it is whole, and what stands in front of what is left of it. Internal.
+ghost use mathlib.Core.Path.{_≡_};
+ghost use lib.ListN.{drop};
+ghost use Rattle.rules.specs.Codes.{kindOf};
+ghost use Rattle.schedule.specs.Scripts.{isWhole};
+ghost use Rattle.schedule.specs.Fronts.{stepBytes, FrontOf};
+use crate::table::long_at;
+use register::Kind;
+use replies::Refusal;
+
+// What stands in front of what is left of a script.
+pub enum Front {
+    Refuses(Refusal),
+    Stands { code: u32, value: u32, long: usize },
+}
+
+// The bytes that a step takes, its value with it; 0 where the code is unknown.
+fn step_bytes(code: u8) -> usize
+    ensures { λ r. ⌜ r ≡ stepBytes (kindOf code) ⌝ }
+{
+    match register::kind_of(code as u32) {
+        Kind::Begin => 1,
+        Kind::Try => 1,
+        Kind::Read(_) => 1,
+        Kind::Write(_) => 5,
+        Kind::Unknown => 0,
+    }
+}
+
+// Whether every code of a script is known and no write is cut short.
+pub fn whole(script: &[u8]) -> bool
+    ensures { λ r. ⌜ r ≡ isWhole (now (script .entry)) ⌝ }
+{
+    let mut at = 0;
+    while at < script.len() {
+        let long = step_bytes(script[at]);
+        if long == 0 {
+            return false;
+        }
+        if script.len() - at < long {
+            return false;
+        }
+        at = at + long;
+    }
+    true
+}
+
+// What stands in front of a script that is used up to a place.
+pub fn in_front(script: &[u8], at: usize) -> Front
+    ensures { λ r. ⌜ FrontOf (drop at (now (script .entry))) r ⌝ }
+{
+    if script.len() <= at {
+        return Front::Refuses(Refusal::UsedUp);
+    }
+    let code = script[at];
+    let long = step_bytes(code);
+    if long == 0 {
+        return Front::Refuses(Refusal::UnknownStep);
+    }
+    if script.len() - at < long {
+        return Front::Refuses(Refusal::UnknownStep);
+    }
+    if long < 5 {
+        return Front::Stands {
+            code: code as u32,
+            value: 0,
+            long,
+        };
+    }
+    let value = long_at(script, at + 1);
+    Front::Stands {
+        code: code as u32,
+        value,
+        long,
+    }
+}
