@@ -81,14 +81,19 @@ module _ (words : List ℕ) {m x start : ℕ} (cells : m ≡ cellsOf words) (ins
   unfolding viewCell
   number-said y h = number-word y h ∙ ap (λ cell. cell .numbers y) cell-says
 
+  -- A cell's first word is its value.
+  first-word : getD words start 0 ≡ getD (cellPart m words x) 0 0
+  first-word = ap (λ place. getD words place 0) (let first : start ≡ start + 0 = omega arith in first) ∙ cell-word 0 (omega arith)
+
+  pub value-said : getD words start 0 ≡ viewed words .cells x .value
+  unfolding viewCell
+  value-said = first-word ∙ ap (λ cell. cell .value) cell-says
+
   -- A cell's first word and the row copied from behind it are the cell.
   pub cell-said : {row : List ℕ} → RowOf m (λ y. getD words (start + 1 + y) 0) row → rowCell (getD words start 0) row ≡ viewed words .cells x
   unfolding viewCell
-  cell-said {row} of = (λ d. record { value = value d; numbers = numbers d }) ∙ cell-says
+  cell-said {row} of = (λ d. record { value = first-word d; numbers = numbers d }) ∙ cell-says
     where
-      value : getD words start 0 ≡ getD (cellPart m words x) 0 0
-      value = ap (λ place. getD words place 0) (let first : start ≡ start + 0 = omega arith in first) ∙ cell-word 0 (omega arith)
-
       copied : RowOf m (below m 0 (numberIn (cellPart m words x))) row
       copied = record { size = of .size; inside = λ y h. of .inside y h ∙ number-word y h; beyond = of .beyond }
 

@@ -1,0 +1,126 @@
+-- A file's run place by place, on cursors and words, is the run that the rules say.
+use Prim.Native.Nat.{ℕ, suc, _+_, _<_}
+use mathlib.Core.Path.{_≡_, refl, sym, ap, _∙_}
+use mathlib.Core.Bool.{true, true≢false}
+use mathlib.Core.List.{List, [], _∷_}
+use mathlib.Core.Option.{Option, none, some}
+use native.Mathlib.Omega.{arith}
+use lib.ListN.{length, getD-replicate, drop, getD, length-drop}
+use lib.Seq.{drop-cons}
+use borrow.Author.Tests.{lt-leb, not-false}
+use Rattle.rules.specs.Tables.{isFound}
+use Rattle.rules.specs.Replies.{Refusal, ready}
+use Rattle.rules.proofs.Given.{none-holds}
+use Rattle.layout.specs.View.{view}
+use Rattle.layout.proofs.Tested.{every-iff}
+use Rattle.promises.specs.Opening.{OpeningPromise}
+use Rattle.promises.proofs.Leaves.{opening-ready}
+use Rattle.schedule.specs.Bytes.{byteAt}
+use Rattle.schedule.specs.Sound.{handlersIn, cellsIn, scriptIn, orderIn, isSoundFile}
+use Rattle.schedule.specs.Scripts.{ScriptStep, stepsOf, isWhole}
+use Rattle.schedule.specs.Judging.{fileChecks, fileRefusal, judged, judgementOf}
+use Rattle.schedule.specs.Taking.{Cursors, cursorOf, atStart, Next, nextOf, namedNext, cursorsAfter}
+use Rattle.schedule.specs.Runs.{ordered, Standing, Run, stepsFound, runFrom, started, Played, ran, playedBy, runOf}
+use Rattle.schedule.specs.Lines.{lineFor, wordsFor, placesFrom, inFront}
+use Rattle.playing.proofs.Places.{Along, one-place}
+
+-- What is shown of so many places, and the register that the words say at the end.
+abbrev pub shownFrom : List ℕ → ℕ → Cursors → ℕ → List ℕ → Run
+shownFrom file count cursors place words =
+    let run = placesFrom file count cursors place words in
+    record { lines = run .lines; register = view (cellsIn file) (handlersIn file) (run .words) }
+
+-- What is shown of one place more, by what comes next there.
+abbrev shownBy : List ℕ → ℕ → Cursors → ℕ → List ℕ → Next → Run
+shownBy file count cursors place words next =
+    let later = shownFrom file count (cursorsAfter cursors next) (place + 1) (wordsFor words next) in
+    record { lines = inFront (lineFor words place next) (later .lines); register = later .register }
+
+module _ (file : List ℕ) (sound : isSoundFile file ≡ true) where
+  -- An order byte at its place, and the order behind it.
+  record AtPlace (place handler : ℕ) (rest : List ℕ) : Type 0 where
+    within : place < length (orderIn file)
+    named : byteAt (orderIn file) place ≡ handler
+    behind : rest ≡ drop (place + 1) (orderIn file)
+
+  at-place : (place handler : ℕ) (rest : List ℕ) → handler ∷ rest ≡ drop place (orderIn file) → AtPlace place handler rest
+  at-place place handler rest e = record {
+    within = inside;
+    named = sym (ap (λ l. getD l 0 0) split);
+    behind = ap (drop 1) split ∙ ap (λ k. drop k (orderIn file)) (sym one-more);
+  }
+    where
+      inside : place < length (orderIn file)
+      inside = let long = ap length e ∙ length-drop place (orderIn file) in omega (arith, long)
+
+      split : handler ∷ rest ≡ byteAt (orderIn file) place ∷ drop (suc place) (orderIn file)
+      split = e ∙ drop-cons (orderIn file) place 0 inside
+
+      one-more : place + 1 ≡ suc place
+      one-more = omega arith
+
+  -- The next step at a place is that of the handler that its byte names.
+  next-named : {place handler : ℕ} {rest : List ℕ} (cursors : Cursors) → AtPlace place handler rest
+      → nextOf file cursors place ≡ namedNext file cursors handler
+  unfolding nextOf
+  next-named {place = place} cursors at =
+      rw (sound, lt-leb (length (orderIn file)) place (at .within)) (ap (namedNext file cursors) (at .named))
+
+  -- From any place on.
+  pub places-run : (rest : List ℕ) (place : ℕ) (cursors : Cursors) (words : List ℕ) (s : Standing)
+      → rest ≡ drop place (orderIn file) → Along file cursors words s
+      → shownFrom file (length rest) cursors place words ≡ runFrom (cellsIn file) (handlersIn file) s place rest
+  unfolding placesFrom runFrom
+  places-run [] place cursors words s e along = ap (λ r. record { lines = []; register = r }) (along .held .says)
+  places-run (handler ∷ rest) place cursors words s e along =
+      let at = at-place place handler rest e in
+      let here = one-place along place handler in
+      let later = places-run rest (place + 1) _ _ _ (at .behind) (here .along) in
+      ap (shownBy file (length rest) cursors place words) (next-named cursors at)
+      ∙ rw (here .shown) (ap (λ run. record { lines = ordered (cellsIn file) (handlersIn file) s place handler .line ∷ run .lines; register = run .register }) later)
+
+-- A file that no check refuses is sound, and each of its scripts is whole.
+record Passed (file : List ℕ) : Type 0 where
+  sound : isSoundFile file ≡ true
+  whole : (handler : ℕ) → handler < handlersIn file → isWhole (scriptIn file handler) ≡ true
+
+passed : (file : List ℕ) → fileRefusal file ≡ none → Passed file
+unfolding fileRefusal fileChecks
+passed file free =
+    let each = simp none-holds at free in
+    record { sound = not-false _ (each .0); whole = every-iff (handlersIn file) _ .0 (not-false _ (each .1 .0)) }
+
+-- A script that is whole has its steps.
+whole-steps : (found : Option (List ScriptStep)) → isFound found ≡ true → found ≡ some (stepsFound found)
+whole-steps none e = absurd (true≢false (sym e))
+whole-steps (some steps) e = refl
+
+-- A file that is run, on words that were opened for it: what is shown place by place is what the rules say.
+pub run-of-places : (file : List ℕ) {before words : List ℕ} → fileRefusal file ≡ none
+    → OpeningPromise before (cellsIn file) (handlersIn file) ready words
+    → runOf file ≡ ran (handlersIn file) (cellsIn file) (shownFrom file (length (orderIn file)) atStart 0 words)
+unfolding runOf judgementOf judged playedBy started
+run-of-places file {words = words} free opening =
+    rw free (ap (ran (handlersIn file) (cellsIn file)) (sym (places-run file (good .sound) (orderIn file) 0 atStart words (started file (cellsIn file)) refl along)))
+  where
+    good : Passed file
+    good = passed file free
+
+    at-front : (handler : ℕ) → handler < handlersIn file → cursorOf atStart handler ≡ 0
+    at-front handler within =
+        let fresh = opening-ready opening in
+        getD-replicate 16 handler 0 0 (omega (arith, within, fresh .wellFormed .range .handlers, fresh .handlerCount))
+
+    along : Along file atStart words (started file (cellsIn file))
+    along =
+        let fresh = opening-ready opening in
+        record {
+          held = record { wellFormed = fresh .wellFormed; cellCount = fresh .cellCount; handlerCount = fresh .handlerCount; says = fresh .says };
+          room = omega (arith, fresh .wellFormed .range .handlers, fresh .handlerCount);
+          leaving = λ handler within. rw (at-front handler within) (whole-steps (stepsOf (scriptIn file handler)) (good .whole handler within));
+        }
+
+-- A file that is refused runs nothing.
+pub refused-run : (file : List ℕ) {refusal : Refusal} → fileRefusal file ≡ some refusal → runOf file ≡ Played.refused refusal
+unfolding runOf judgementOf judged playedBy
+refused-run file e = rw e

@@ -1,0 +1,31 @@
+-- What is shown of a cell at the end of a run: its value and its own number.
+use Prim.Native.Nat.{ℕ}
+use mathlib.Core.Path.{_≡_}
+use mathlib.Core.Bool.{_&&_}
+use mathlib.Core.List.{List}
+use mathlib.Core.Option.{Option, none, some}
+use lib.Dec.{ltb}
+use Rattle.rules.specs.Tables.{if_then_else_}
+use Rattle.rules.specs.Register.{Cell}
+use Rattle.layout.specs.Places.{cellsOf, handlersOf}
+use Rattle.layout.specs.View.{view}
+use Rattle.layout.specs.WellFormed.{isWellFormed}
+
+-- A cell's value and its own number.
+pub record CellLine : Type 0 where
+  pub value : ℕ
+  pub number : ℕ
+
+-- What is shown of cell c.
+abbrev pub cellLine : ℕ → Cell ℕ → CellLine
+cellLine c cell = record { value = cell .value; number = cell .numbers c }
+
+-- What is shown of cell c of the register that the words say, if they say one that has it.
+unfoldable pub endOf : List ℕ → ℕ → Option CellLine
+endOf words c =
+    let cell = view (cellsOf words) (handlersOf words) words .cells c in
+    if isWellFormed words && ltb c (cellsOf words) then (some (cellLine c cell)) else none
+
+-- The promise of a cell's end.
+pub record EndPromise (words : List ℕ) (c : ℕ) (reply : Option CellLine) : Type 0 where
+  pub replied : reply ≡ endOf words c

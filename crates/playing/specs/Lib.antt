@@ -1,0 +1,3 @@
+-- What is shown of a run.
+pub mod Ending
+pub mod Shown

@@ -1,0 +1,93 @@
+// The run of a schedule file, one order place after another, and what is shown of a cell at the end.
+// PUBLIC: nothing here has a `requires`. Each promise fixes the reply and every word of the register, for all inputs.
+ghost use Rattle.schedule.specs.Lines.{PlacePromise};
+ghost use Rattle.playing.specs.Ending.{EndPromise};
+ghost use Rattle.playing.specs.Shown.{lineIs, endIs};
+use replies::Answer;
+use replies::Refusal;
+use schedule::Cursors;
+use schedule::Next;
+
+// What a place shows: nothing where the order has no such place, a refusal where no step was taken, or the answer to a step.
+pub enum Shown {
+    Nothing,
+    NoStep {
+        handler: u32,
+        refusal: Refusal,
+    },
+    Asked {
+        handler: u32,
+        code: u32,
+        answer: Answer,
+    },
+}
+
+// What a place shows, and the cursors afterwards.
+pub struct Placed {
+    pub shown: Shown,
+    pub cursors: Cursors,
+}
+
+// What is shown of a cell at the end, if the register has such a cell.
+pub enum End {
+    Cell { value: u32, number: u32 },
+    Missing,
+}
+
+// Takes one order place of a file: the step that it names is asked of the register.
+pub fn play_place(file: &[u8], cursors: Cursors, place: usize, words: &mut [u32]) -> Placed
+    ensures { λ r. ⌜ PlacePromise (now (file .entry)) (cursors .at) place (now (words .entry))
+        (lineIs place (r .shown)) (r .cursors .at) (now (words .exit)) ⌝ }
+{
+    let step = schedule::next_step(file, cursors, place);
+    let after = step.cursors;
+    let next = step.next;
+    match next {
+        Next::Rejected(_) => Placed {
+            shown: Shown::Nothing,
+            cursors: after,
+        },
+        Next::Over => Placed {
+            shown: Shown::Nothing,
+            cursors: after,
+        },
+        Next::Refused { handler, refusal } => Placed {
+            shown: Shown::NoStep { handler, refusal },
+            cursors: after,
+        },
+        Next::Taken {
+            handler,
+            code,
+            value,
+        } => {
+            let answer = register::step(words, handler, code, value);
+            Placed {
+                shown: Shown::Asked {
+                    handler,
+                    code,
+                    answer,
+                },
+                cursors: after,
+            }
+        }
+    }
+}
+
+// A cell's value and own number.
+pub fn cell_end(words: &[u32], c: u32) -> End
+    ensures { λ r. ⌜ EndPromise (now (words .entry)) c (endIs r) ⌝ }
+{
+    if !formed::well_formed(words) {
+        return End::Missing;
+    }
+    if words[0] <= c {
+        return End::Missing;
+    }
+    let m = words[0] as usize;
+    let k = c as usize;
+    let start = 2 + k * (m + 1);
+    End::Cell {
+        value: words[start],
+        number: words[start + 1 + k],
+    }
+}
