@@ -162,12 +162,17 @@ impl fmt::Display for Run {
     }
 }
 
-/// What a runner prints for a file, whatever it holds.
-pub fn printed(file: &[u8]) -> String {
-    match run(file) {
+/// The lines of a run, or the one line of a refused file.
+pub fn shown(run: &Result<Run, u32>) -> String {
+    match run {
         Ok(run) => run.to_string(),
         Err(number) => format!("refused {number}\n"),
     }
+}
+
+/// What a runner prints for a file, whatever it holds.
+pub fn printed(file: &[u8]) -> String {
+    shown(&run(file))
 }
 
 #[cfg(test)]
