@@ -232,6 +232,36 @@ fn readers_and_writers(random: &mut Random) -> Parts {
     Parts::new(cells, &all, order)
 }
 
+/// Readers that take a step now and then, and whole short transactions of writers in between: a version's past is long, through
+/// reads and through the handlers' earlier commits.
+fn long_pasts(random: &mut Random) -> Parts {
+    let cells = random.within(2, 5) as u8;
+    let reading = Manner { cells, longest: 5, write_in: 6, again_in: 8, odd_in: 100 };
+    let writing = Manner { cells, longest: 2, write_in: 2, again_in: 4, odd_in: 200 };
+    let readers = random.within(1, 3) as usize;
+    let mut scripts = vec![Vec::new(); readers + random.within(1, 4) as usize];
+    let mut left = vec![Vec::new(); readers];
+    let mut order = Vec::new();
+    for _ in 0..random.within(6, 60) {
+        let handler = random.below(scripts.len() as u64) as usize;
+        let mut steps = Vec::new();
+        match left.get_mut(handler) {
+            None => writing.transaction(random, &mut steps),
+            Some(left) => {
+                if left.is_empty() {
+                    let manner = if random.once_in(3) { &writing } else { &reading };
+                    manner.transaction(random, left);
+                    left.reverse();
+                }
+                steps.extend(left.pop());
+            }
+        }
+        order.extend(vec![handler as u8; steps.len()]);
+        scripts[handler].extend(steps);
+    }
+    Parts::new(cells, &scripts, order)
+}
+
 /// Any known codes, in no order that makes sense.
 fn careless(random: &mut Random) -> Parts {
     let cells = random.within(1, 32) as u8;
@@ -349,7 +379,8 @@ fn parts(random: &mut Random) -> Parts {
         }
         150..=219 => edge(random),
         220..=319 => careless(random),
-        320..=619 => readers_and_writers(random),
+        320..=569 => long_pasts(random),
+        570..=719 => readers_and_writers(random),
         _ => contended(random),
     }
 }
@@ -439,7 +470,11 @@ impl Damage {
 
     /// A file damaged so.
     pub fn file(self, random: &mut Random) -> Vec<u8> {
-        let mut parts = small(random);
+        let parts = small(random);
+        self.file_of(random, parts)
+    }
+
+    fn file_of(self, random: &mut Random, mut parts: Parts) -> Vec<u8> {
         let handlers = parts.scripts.len();
         let entries = handlers as u64 + 1;
         let mut table = parts.table();
@@ -455,12 +490,8 @@ impl Damage {
                 parts.file()
             }
             NoCells => with_byte(parts.file(), 1, 0),
-            ManyCells => with_byte(parts.file(), 1, one_of(random, &[33, 33, 34, 64, 255])),
-            Gap | TableAndCode => {
-                if self == TableAndCode {
-                    unknown_code(random, &mut parts);
-                    table = parts.table();
-                }
+            ManyCells => with_byte(parts.file(), 1, one_of(random, &[33, 33, 33, 34, 255])),
+            Gap => {
                 let entry = random.below(entries) as usize;
                 let at = table[entry].0;
                 let wide = random.within(1, 4) as usize;
@@ -533,10 +564,7 @@ impl Damage {
                 table[entry + 1] = ((table[entry].0 + more) % 65_536, together + 65_536 - more);
                 parts.with_table(&table)
             }
-            OneByteMore | LengthAndCode => {
-                if self == LengthAndCode {
-                    unknown_code(random, &mut parts);
-                }
+            OneByteMore => {
                 let order = parts.order.len();
                 parts.order.resize(order + LONGEST + 1 - parts.length(), 0);
                 parts.file()
@@ -571,6 +599,15 @@ impl Damage {
                 parts.scripts[handler].push(64 + cell as u8);
                 parts.scripts[handler].extend(vec![0; random.below(4) as usize]);
                 parts.file()
+            }
+            TableAndCode => {
+                let tables = [NoHandlers, ManyHandlers, NoCells, ManyCells, Gap, Tail, LastBodyTooLong, LastBodyTooShort];
+                unknown_code(random, &mut parts);
+                one_of(random, &tables).file_of(random, parts)
+            }
+            LengthAndCode => {
+                unknown_code(random, &mut parts);
+                one_of(random, &[OneByteMore, OneByteBehindTheLongest]).file_of(random, parts)
             }
             Flipped => {
                 let mut file = parts.file();
@@ -648,12 +685,12 @@ fn with_byte(mut file: Vec<u8>, at: usize, byte: u8) -> Vec<u8> {
     file
 }
 
-/// A damaged file, each way as often as another but for the very long ones.
+/// A damaged file, each way about as often as another but for the very long ones.
 pub fn damaged(random: &mut Random) -> Vec<u8> {
     let long = [OneByteMore, OneByteBehindTheLongest, MuchTooLong, LengthAndCode];
     let mut damage = one_of(random, &Damage::ALL);
     if long.contains(&damage) && !random.once_in(4) {
-        damage = one_of(random, &[Flipped, FlippedTable]);
+        damage = one_of(random, &[Flipped, FlippedTable, TableAndCode]);
     }
     damage.file(random)
 }
