@@ -238,11 +238,11 @@ fn long_pasts(random: &mut Random) -> Parts {
     let cells = random.within(2, 5) as u8;
     let reading = Manner { cells, longest: 5, write_in: 6, again_in: 8, odd_in: 100 };
     let writing = Manner { cells, longest: 2, write_in: 2, again_in: 4, odd_in: 200 };
-    let readers = random.within(1, 3) as usize;
+    let readers = random.within(1, 10) as usize;
     let mut scripts = vec![Vec::new(); readers + random.within(1, 4) as usize];
     let mut left = vec![Vec::new(); readers];
     let mut order = Vec::new();
-    for _ in 0..random.within(6, 60) {
+    for _ in 0..random.within(6, 120) {
         let handler = random.below(scripts.len() as u64) as usize;
         let mut steps = Vec::new();
         match left.get_mut(handler) {
@@ -303,9 +303,9 @@ fn edge(random: &mut Random) -> Parts {
     Parts::new(cells, &scripts, order)
 }
 
-/// A schedule with exactly so many commits, many of them of transactions that read and wrote nothing. Whole transactions come one
-/// after another. Handler 0 begins before them and reads cell 0, handler 1 the last cell, which nobody writes; at the end handler 0
-/// tries and aborts if somebody wrote cell 0, and handler 1 commits.
+/// A schedule with exactly so many commits (at least 2), many of them of transactions that read and wrote nothing. Whole
+/// transactions come one after another. Before them handler 0 reads cell 0, which is written, and handler 1 the last cell, which
+/// is not; after them handler 0 tries and aborts, and handler 1 commits.
 pub fn with_commits(random: &mut Random, commits: u64) -> Parts {
     let cells = random.within(2, 6) as u8;
     let handlers = random.within(3, 16);

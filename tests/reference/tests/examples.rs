@@ -1,4 +1,4 @@
-//! The directed schedules of `examples/`: the bytes are those of the commented text, and the run prints what was expected by hand.
+//! The directed schedules of `examples/`: the bytes are those of the commented text, and the run prints what is expected.
 use reference::{hexadecimal, schedule};
 use std::collections::BTreeSet;
 use std::ffi::OsStr;
