@@ -390,6 +390,20 @@ pub fn sound(random: &mut Random) -> Vec<u8> {
     parts(random).file()
 }
 
+/// Files at every border: each step code, each number of cells, numbers of handlers up to 40, and lengths about the longest.
+pub fn borders() -> Vec<Vec<u8>> {
+    let codes = (0..=255).map(|code| Parts { cells: 1, scripts: vec![vec![code, 0, 0, 0, 0]], order: vec![0; 6] });
+    let last_cell = vec![vec![0, 95, 0, 0, 0, 7, 63, 1]];
+    let cells = (0..=255).map(|cells| Parts { cells, scripts: last_cell.clone(), order: vec![0; 5] });
+    let handlers = (0..=40).map(|count| Parts { cells: 2, scripts: vec![vec![0, 1]; count], order: (0..=255).collect() });
+    let lengths = (65_533..=65_538).map(|length| {
+        let mut parts = Parts { cells: 2, scripts: vec![vec![0, 32, 1]], order: Vec::new() };
+        parts.order.resize(length - parts.length(), 0);
+        parts
+    });
+    codes.chain(cells).chain(handlers).chain(lengths).map(|parts| parts.file()).collect()
+}
+
 /// A way to damage a file.
 #[derive(Clone, Copy, Debug, PartialEq, Eq)]
 pub enum Damage {
@@ -657,7 +671,8 @@ fn small(random: &mut Random) -> Parts {
     parts
 }
 
-/// Puts an unknown code before, between or behind the steps of a script, and gives the handler back.
+/// Puts an unknown code before, between or behind the steps of a script, and gives the handler back. Often four bytes follow that
+/// are known codes and would do for a value.
 fn unknown_code(random: &mut Random, parts: &mut Parts) -> usize {
     let code = match random.below(3) {
         0 => one_of(random, &[2, 31, 96, 255]),
@@ -671,7 +686,9 @@ fn unknown_code(random: &mut Random, parts: &mut Parts) -> usize {
         let place = places[places.len() - 1];
         places.push(place + if is_write(script[place]) { 5 } else { 1 });
     }
-    script.insert(one_of(random, &places), code);
+    let place = one_of(random, &places);
+    let behind = if random.once_in(2) { 4 } else { 0 };
+    script.splice(place..place, [vec![code], vec![0; behind]].concat());
     handler
 }
 
@@ -769,6 +786,14 @@ mod tests {
         let mut random = Random::new(3);
         let found: BTreeSet<_> = (0..300).map(|_| judge(&Flipped.file(&mut random)).err()).collect();
         assert_eq!(found, [None, Some(15), Some(30)].into());
+    }
+
+    #[test]
+    fn borders_have_their_numbers() {
+        let found: Vec<_> = borders().iter().map(|file| judge(file).err()).collect();
+        let count = |number| found.iter().filter(|&&one| one == number).count();
+        // 66 codes are known, 32 numbers of cells and 16 of handlers are in range, and 3 files are not too long.
+        assert_eq!((found.len(), count(None), count(Some(15)), count(Some(30))), (559, 66 + 32 + 16 + 3, 190, 224 + 25 + 3));
     }
 
     #[test]

@@ -1,4 +1,4 @@
-//! Compares a proved runner with this crate's, line for line, on random schedule files.
+//! Compares a proved runner with this crate's, line for line, on schedule files at the borders and on random ones.
 //! Arguments: the runner's path, a seed, how many sound files, how many damaged ones.
 use reference::random::Random;
 use reference::register::Reply;
@@ -80,10 +80,13 @@ fn main() {
     };
     let mut random = Random::new(seed);
     let mut counts = BTreeMap::new();
-    for place in 0..sound + damaged {
-        let (kind, file) = match place < sound {
-            true => ("sound", generate::sound(&mut random)),
-            false => ("damaged", generate::damaged(&mut random)),
+    let borders = generate::borders();
+    let fixed = borders.len() as u64;
+    for place in 0..fixed + sound + damaged {
+        let (kind, file) = match borders.get(place as usize) {
+            Some(file) => ("border", file.clone()),
+            None if place < fixed + sound => ("sound", generate::sound(&mut random)),
+            None => ("damaged", generate::damaged(&mut random)),
         };
         let run = schedule::run(&file);
         count(&mut counts, &run);
@@ -91,5 +94,6 @@ fn main() {
         compare(&mut random, program, &format!("seed {seed}, file {place} ({kind})"), &file, &reference);
     }
     let counts: Vec<_> = counts.iter().map(|(name, times)| format!("{name} {times} times")).collect();
-    println!("seed {seed}: {sound} sound and {damaged} damaged files, no difference; {}", counts.join(", "));
+    let counts = counts.join(", ");
+    println!("seed {seed}: {fixed} files at borders, {sound} sound and {damaged} damaged ones, no difference; {counts}");
 }
