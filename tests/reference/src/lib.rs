@@ -1,4 +1,7 @@
-//! The register of document 01 in plain Rust with no dependencies, written from the paper alone. It is what the proved register
-//! is compared with, word for word, and measured against.
+//! The register of document 01 in plain Rust with no dependencies, written from the paper alone: its words and steps, the
+//! schedule file and its run, and random schedules. The proved programs are compared with it, word for word and line for line.
+pub mod generate;
+pub mod hexadecimal;
 pub mod random;
 pub mod register;
+pub mod schedule;

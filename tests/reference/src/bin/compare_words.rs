@@ -166,5 +166,8 @@ fn main() {
     for _ in 0..good / 10 {
         opening(&mut random);
     }
-    println!("seed {seed}: {good} well-formed and {bad} malformed registers, {taken} steps, {} openings: no difference", good / 10);
+    println!(
+        "seed {seed}: {good} well-formed and {bad} malformed registers, {taken} steps, {} openings: no difference",
+        good / 10
+    );
 }

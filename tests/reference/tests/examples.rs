@@ -1,0 +1,47 @@
+//! The directed schedules of `examples/`: the bytes are those of the commented text, and the run prints what is expected.
+use reference::{hexadecimal, schedule};
+use std::collections::BTreeSet;
+use std::ffi::OsStr;
+use std::fs;
+use std::path::{Path, PathBuf};
+
+fn folder() -> PathBuf {
+    Path::new(env!("CARGO_MANIFEST_DIR")).join("../../examples")
+}
+
+/// The names of the examples that have a file with such an ending.
+fn names(ending: &str) -> BTreeSet<String> {
+    let paths = fs::read_dir(folder()).expect("examples").map(|entry| entry.expect("an example").path());
+    let chosen = paths.filter(|path| path.extension() == Some(OsStr::new(ending)));
+    chosen.filter_map(|path| Some(path.file_stem()?.to_str()?.to_owned())).collect()
+}
+
+fn text(name: &str, ending: &str) -> String {
+    fs::read_to_string(folder().join(format!("{name}.{ending}"))).expect(name)
+}
+
+fn bytes(name: &str) -> Vec<u8> {
+    fs::read(folder().join(format!("{name}.bin"))).expect(name)
+}
+
+#[test]
+fn each_example_has_its_three_files() {
+    let sources = names("hex");
+    assert!(sources.len() > 12);
+    assert_eq!(sources, names("bin"));
+    assert_eq!(sources, names("out"));
+}
+
+#[test]
+fn the_bytes_are_those_of_the_text() {
+    for name in names("hex") {
+        assert_eq!(hexadecimal::bytes(&text(&name, "hex")), Ok(bytes(&name)), "{name}");
+    }
+}
+
+#[test]
+fn the_run_prints_what_is_expected() {
+    for name in names("bin") {
+        assert_eq!(schedule::printed(&bytes(&name)), text(&name, "out"), "{name}");
+    }
+}
