@@ -4,3 +4,4 @@ pub mod Ends
 pub mod Scripts
 pub mod Places
 pub mod RunOf
+pub mod Tight

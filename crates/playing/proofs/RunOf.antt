@@ -7,18 +7,18 @@ use mathlib.Core.Option.{Option, none, some}
 use native.Mathlib.Omega.{arith}
 use lib.ListN.{length, getD-replicate, drop, getD, length-drop}
 use lib.Seq.{drop-cons}
-use borrow.Author.Tests.{lt-leb, not-false}
+use borrow.Author.Tests.{lt-leb}
 use Rattle.rules.specs.Tables.{isFound}
 use Rattle.rules.specs.Replies.{Refusal, ready}
-use Rattle.rules.proofs.Given.{none-holds}
 use Rattle.layout.specs.View.{view}
-use Rattle.layout.proofs.Tested.{every-iff}
 use Rattle.promises.specs.Opening.{OpeningPromise}
 use Rattle.promises.proofs.Leaves.{opening-ready}
 use Rattle.schedule.specs.Bytes.{byteAt}
 use Rattle.schedule.specs.Sound.{handlersIn, cellsIn, scriptIn, orderIn, isSoundFile}
-use Rattle.schedule.specs.Scripts.{ScriptStep, stepsOf, isWhole}
-use Rattle.schedule.specs.Judging.{fileChecks, fileRefusal, judged, judgementOf}
+use Rattle.schedule.specs.Scripts.{ScriptStep, stepsOf}
+use Rattle.schedule.specs.Judging.{fileRefusal, judged, judgementOf, GoodFile}
+use Rattle.schedule.proofs.Sounds.{file-tested}
+use Rattle.schedule.proofs.Judges.{good-exactly}
 use Rattle.schedule.specs.Taking.{Cursors, cursorOf, atStart, Next, nextOf, namedNext, cursorsAfter}
 use Rattle.schedule.specs.Runs.{ordered, Standing, Run, stepsFound, runFrom, started, Played, ran, playedBy, runOf}
 use Rattle.schedule.specs.Lines.{lineFor, wordsFor, placesFrom, inFront}
@@ -79,17 +79,6 @@ module _ (file : List ℕ) (sound : isSoundFile file ≡ true) where
       ap (shownBy file (length rest) cursors place words) (next-named cursors at)
       ∙ rw (here .shown) (ap (λ run. record { lines = ordered (cellsIn file) (handlersIn file) s place handler .line ∷ run .lines; register = run .register }) later)
 
--- A file that no check refuses is sound, and each of its scripts is whole.
-record Passed (file : List ℕ) : Type 0 where
-  sound : isSoundFile file ≡ true
-  whole : (handler : ℕ) → handler < handlersIn file → isWhole (scriptIn file handler) ≡ true
-
-passed : (file : List ℕ) → fileRefusal file ≡ none → Passed file
-unfolding fileRefusal fileChecks
-passed file free =
-    let each = simp none-holds at free in
-    record { sound = not-false _ (each .0); whole = every-iff (handlersIn file) _ .0 (not-false _ (each .1 .0)) }
-
 -- A script that is whole has its steps.
 whole-steps : (found : Option (List ScriptStep)) → isFound found ≡ true → found ≡ some (stepsFound found)
 whole-steps none e = absurd (true≢false (sym e))
@@ -101,10 +90,10 @@ pub run-of-places : (file : List ℕ) {before words : List ℕ} → fileRefusal 
     → runOf file ≡ ran (handlersIn file) (cellsIn file) (shownFrom file (length (orderIn file)) atStart 0 words)
 unfolding runOf judgementOf judged playedBy started
 run-of-places file {words = words} free opening =
-    rw free (ap (ran (handlersIn file) (cellsIn file)) (sym (places-run file (good .sound) (orderIn file) 0 atStart words (started file (cellsIn file)) refl along)))
+    rw free (ap (ran (handlersIn file) (cellsIn file)) (sym (places-run file (file-tested file .1 (good .sound)) (orderIn file) 0 atStart words (started file (cellsIn file)) refl along)))
   where
-    good : Passed file
-    good = passed file free
+    good : GoodFile file
+    good = good-exactly file .0 free
 
     at-front : (handler : ℕ) → handler < handlersIn file → cursorOf atStart handler ≡ 0
     at-front handler within =

@@ -41,7 +41,7 @@ refusalBack Rules.tooShort = TooShort
 refusalBack Rules.badFile = BadFile
 refusalBack Rules.usedUp = UsedUp
 
-answerBack : Rules.Reply ℕ → Answer
+pub answerBack : Rules.Reply ℕ → Answer
 answerBack (Rules.reported report) = Reported (record { handler = report .handler; code = report .code; outcome = outcomeBack (report .outcome) })
 answerBack (Rules.Reply.refused refusal) = Refused (refusalBack refusal)
 
@@ -77,7 +77,7 @@ refusal-same TooShort = refl
 refusal-same BadFile = refl
 refusal-same UsedUp = refl
 
-answer-same : (answer : Answer) → answerBack (replyOf answer) ≡ answer
+pub answer-same : (answer : Answer) → answerBack (replyOf answer) ≡ answer
 unfolding answerBack
 answer-same (Reported report) = ap (λ o. Reported (record { handler = report .handler; code = report .code; outcome = o })) (outcome-same (report .outcome))
 answer-same (Refused refusal) = ap Refused (refusal-same refusal)

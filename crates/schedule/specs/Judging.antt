@@ -1,7 +1,7 @@
 -- The judgement of a file, before its first step: sound with n and m, or refused. File: 30, 15.
 use Prim.Native.Nat.{ℕ, _<_}
 use mathlib.Core.Path.{_≡_}
-use mathlib.Core.Bool.{Bool, true, not}
+use mathlib.Core.Bool.{Bool, true, false, not}
 use mathlib.Core.List.{List, [], _∷_}
 use mathlib.Core.Option.{Option, none, some}
 use Rattle.rules.specs.Replies.{Refusal, badFile, unknownStep}
@@ -42,6 +42,12 @@ judgementOf file = judged file (fileRefusal file)
 pub record GoodFile (file : List ℕ) : Type 0 where
   pub sound : SoundFile file
   pub whole : (handler : ℕ) → handler < handlersIn file → isWhole (scriptIn file handler) ≡ true
+
+-- When a file is refused with each number: 30 where it is not sound, 15 where it is and some script is not whole.
+pub data FileGiven (file : List ℕ) : Refusal → Type 0 where
+  unsound : (SoundFile file → ⊥) → FileGiven file badFile
+  spoilt : (handler : ℕ) → SoundFile file → handler < handlersIn file → isWhole (scriptIn file handler) ≡ false
+      → FileGiven file unknownStep
 
 -- The promise of a judgement.
 pub record JudgePromise (file : List ℕ) (reply : Judgement) : Type 0 where
