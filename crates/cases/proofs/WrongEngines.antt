@@ -3,17 +3,19 @@ use Prim.Native.Nat.{ℕ}
 use mathlib.Core.Path.{_≡_, refl, sym, ap, _∙_}
 use mathlib.Core.List.{List, [], _∷_}
 use native.Mathlib.Omega.{arith}
+use lib.Dec.{ltb}
 use lib.ListN.{getD}
-use Rattle.rules.specs.Tables.{put, orElse, lowest, someBelow}
+use Rattle.rules.specs.Tables.{if_then_else_, put, orElse, lowest, someBelow}
 use Rattle.rules.specs.Codes.{kindOf}
 use Rattle.rules.specs.Replies.{Reason, Outcome, ok, committed, aborted, Refusal, Report, Reply, reported, refused, outcomeNumbers, replyNumbers}
-use Rattle.rules.specs.Register.{withHandler, idle}
+use Rattle.rules.specs.Register.{Register, Handler, Cell, withHandler, idle}
 use Rattle.rules.specs.Checks.{firstHit, stepChecks, inRange}
 use Rattle.rules.specs.Figure.{begun, stamped, stored, isOvertaken, isSpent, aborting, committing, unlessAborted, tryChecks, trying, step}
 use Rattle.rules.specs.Turn.{refusalOf, turned, turn}
 use Rattle.layout.specs.Bits.{hasBit, mask}
 use Rattle.layout.specs.Rows.{row, rows, below}
-use Rattle.layout.specs.View.{viewCell, viewHandler, view, pourCell, pourHandler, pour}
+use Rattle.layout.specs.Places.{cellsOf, handlersOf}
+use Rattle.layout.specs.View.{wordSetting, holding, viewCell, viewHandler, view, pourCell, pourHandler, pour}
 use Rattle.layout.specs.WellFormed.{everyBelow, numbersFit, isGoodBlock, isRegister, isWellFormed}
 use Rattle.promises.specs.Stepping.{turnOf, stepWords, StepPromise}
 
@@ -82,3 +84,48 @@ module _ {e : Engine} (keeps : KeepsPromise e) where
   not-aborting-all aborts =
       let kinds : _≡_ {A = ℕ} 2 3 = ap (λ o. outcomeNumbers o .kind) (aborts (inPhase 1) 0 0 (reportOf 1 committed) tries .1) in
       omega arith
+
+-- ── A commit in one pass ──────────────────────────────────────────────
+
+-- Each written cell is stored as soon as its own number is raised: the numbers of the cells behind it are not raised yet.
+unfoldable pub storedAtOnce : Register ℕ → Handler ℕ → ℕ → Cell ℕ
+storedAtOnce r h x =
+    let numbers : ℕ → ℕ = λ y. if ltb x y then (h .transaction y) else (stamped r h y) in
+    if h .writtenSet x then (record { value = h .copies x; numbers = numbers }) else (r .cells x)
+
+-- The words that such a commit leaves.
+unfoldable pub onePass : List ℕ → ℕ → List ℕ
+onePass words handler =
+    let m = cellsOf words in
+    let n = handlersOf words in
+    let r = view m n words in
+    let h = r .handlers handler in
+    let cells : Register ℕ = record { cells = storedAtOnce r h; handlers = r .handlers } in
+    holding words m n (withHandler cells handler (idle (wordSetting m) (stamped r h)))
+
+-- Handler 0 has written both cells of two.
+unfoldable bothWritten : List ℕ
+bothWritten = 2 ∷ 1 ∷ 0 ∷ 0 ∷ 0 ∷ 0 ∷ 0 ∷ 0 ∷ 1 ∷ 0 ∷ 3 ∷ 0 ∷ 0 ∷ 0 ∷ 0 ∷ 4 ∷ 8 ∷ []
+
+-- Its try is reported committed; cell 0's number for cell 1 is then 1, and in one pass it would be 0.
+record TwoCells : Type 0 where
+  tried : turnOf bothWritten 0 1 0 .reply ≡ reported (reportOf 1 committed)
+  raised : getD (stepWords bothWritten (turnOf bothWritten 0 1 0 .reply) (turnOf bothWritten 0 1 0 .after)) 4 0 ≡ 1
+  missed : getD (onePass bothWritten 0) 4 0 ≡ 0
+
+two-cells : TwoCells
+unfolding bothWritten onePass storedAtOnce turnOf stepWords
+    everyBelow numbersFit isGoodBlock isRegister isWellFormed viewCell viewHandler view pourCell pourHandler pour
+    hasBit mask row rows below put orElse lowest someBelow kindOf withHandler idle firstHit stepChecks inRange
+    stamped stored begun isOvertaken isSpent aborting committing unlessAborted tryChecks trying step refusalOf turned turn
+two-cells = record { tried = refl; raised = refl; missed = refl }
+
+-- No engine that keeps the promise commits in one pass.
+pub not-one-pass : {e : Engine} → KeepsPromise e
+    → ((words : List ℕ) (handler value : ℕ) → e .reply words handler 1 value ≡ reported (record { handler = handler; code = 1; outcome = committed })
+    → e .after words handler 1 value ≡ onePass words handler) → ⊥
+not-one-pass keeps passes =
+    let kept = keeps bothWritten 0 1 0 in
+    let words = sym (passes bothWritten 0 0 (kept .replied ∙ two-cells .tried)) ∙ kept .left in
+    let numbers : _≡_ {A = ℕ} 0 1 = sym (two-cells .missed) ∙ ap (λ l. getD l 4 0) words ∙ two-cells .raised in
+    omega arith

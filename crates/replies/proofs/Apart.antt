@@ -29,7 +29,7 @@ outcomeBack (Rules.value v) = Value v
 outcomeBack Rules.committed = Committed
 outcomeBack (Rules.aborted reason) = Aborted (reasonBack reason)
 
-refusalBack : Rules.Refusal → Refusal
+pub refusalBack : Rules.Refusal → Refusal
 refusalBack Rules.notWellFormed = NotWellFormed
 refusalBack Rules.noHandler = NoHandler
 refusalBack Rules.noCell = NoCell
@@ -64,7 +64,7 @@ outcome-same (Value v) = refl
 outcome-same Committed = refl
 outcome-same (Aborted reason) = ap Aborted (reason-same reason)
 
-refusal-same : (refusal : Refusal) → refusalBack (refusalOf refusal) ≡ refusal
+pub refusal-same : (refusal : Refusal) → refusalBack (refusalOf refusal) ≡ refusal
 unfolding refusalBack
 refusal-same NotWellFormed = refl
 refusal-same NoHandler = refl

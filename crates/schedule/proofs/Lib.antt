@@ -5,4 +5,5 @@ pub mod Judges
 pub mod Finds
 pub mod Takes
 pub mod Nexts
+pub mod Apart
 pub mod Tight
