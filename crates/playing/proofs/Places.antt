@@ -143,8 +143,10 @@ module _ {file : List ℕ} {cursors : Cursors} {words : List ℕ} {s : Standing}
       step-left : OnePlace file cursors words s place handler
       unfolding ordered stepped lineFor wordsFor cursorsAfter step moved
       step-left = record {
-        shown = rw (taken-here, inside, stands .stands) (ap (λ t. some (stepLine place handler code (t .reply))) (same-turn (along .held) handler code (step .value)));
-        along = rw (taken-here, inside, stands .stands) (record { held = turn-holding (along .held) handler code (step .value); room = kept; leaving = leaving-next });
+        shown = rw (taken-here, inside, stands .stands)
+            (ap (λ t. some (stepLine place handler code (t .reply))) (same-turn (along .held) handler code (step .value)));
+        along = rw (taken-here, inside, stands .stands)
+            (record { held = turn-holding (along .held) handler code (step .value); room = kept; leaving = leaving-next });
       }
 
     -- The handler's script has a step in front, or it has none.

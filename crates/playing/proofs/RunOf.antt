@@ -76,8 +76,9 @@ module _ (file : List ℕ) (sound : isSoundFile file ≡ true) where
       let at = at-place place handler rest e in
       let here = one-place along place handler in
       let later = places-run rest (place + 1) _ _ _ (at .behind) (here .along) in
+      let line = ordered (cellsIn file) (handlersIn file) s place handler .line in
       ap (shownBy file (length rest) cursors place words) (next-named cursors at)
-      ∙ rw (here .shown) (ap (λ run. record { lines = ordered (cellsIn file) (handlersIn file) s place handler .line ∷ run .lines; register = run .register }) later)
+      ∙ rw (here .shown) (ap (λ run. record { lines = line ∷ run .lines; register = run .register }) later)
 
 -- A script that is whole has its steps.
 whole-steps : (found : Option (List ScriptStep)) → isFound found ≡ true → found ≡ some (stepsFound found)
@@ -90,7 +91,8 @@ pub run-of-places : (file : List ℕ) {before words : List ℕ} → fileRefusal 
     → runOf file ≡ ran (handlersIn file) (cellsIn file) (shownFrom file (length (orderIn file)) atStart 0 words)
 unfolding runOf judgementOf judged playedBy started
 run-of-places file {words = words} free opening =
-    rw free (ap (ran (handlersIn file) (cellsIn file)) (sym (places-run file (file-tested file .1 (good .sound)) (orderIn file) 0 atStart words (started file (cellsIn file)) refl along)))
+    let run = places-run file (file-tested file .1 (good .sound)) (orderIn file) 0 atStart words (started file (cellsIn file)) refl along in
+    rw free (ap (ran (handlersIn file) (cellsIn file)) (sym run))
   where
     good : GoodFile file
     good = good-exactly file .0 free

@@ -21,4 +21,8 @@ zidlemowo-open-spec =
     (λ c. search needs)
     -- refused
     (λ c. let opens = c .before .before .before .before .before .before .«open» in
-    record { reply = _; replied = c .refusal-number .ensures ∙ ap (λ answer. openingNumber (openingOf answer)) (sym (c .before .before .refusal .given .1)); opens = opens .ensures }))
+    record {
+      reply = _;
+      replied = c .refusal-number .ensures ∙ ap (λ answer. openingNumber (openingOf answer)) (sym (c .before .before .refusal .given .1));
+      opens = opens .ensures;
+    }))
