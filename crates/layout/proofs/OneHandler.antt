@@ -13,7 +13,8 @@ use Rattle.layout.specs.View.{pourCell, pourHandler, pour}
 use Rattle.layout.proofs.Places.{handlersStart, cell-ends, cell-fits, handler-fits}
 use Rattle.layout.proofs.Blocks.{poured-cell, poured-handler}
 use Rattle.layout.proofs.Holds.{Holds, holds-is, pour-holds}
-use Rattle.layout.proofs.Untouched.{Untouched, part-before, part-after, drop-after, rows-changed, splice, splice-part, splice-untouched}
+use Rattle.layout.specs.Rows.{splice}
+use Rattle.layout.proofs.Untouched.{Untouched, part-before, part-after, drop-after, rows-changed, splice-part, splice-untouched}
 
 -- The register with another cell at place c.
 abbrev pub withCell : Register ℕ → ℕ → Cell ℕ → Register ℕ

@@ -10,7 +10,7 @@ use lib.Seq.{ext-getD, getD-take, getD-drop, drop-drop, take-at, drop-at}
 use borrow.Author.Tests.{ltb-true, ltb-false}
 use Rattle.rules.specs.Tables.{put}
 use Rattle.rules.proofs.Tables.{by, put-each}
-use Rattle.layout.specs.Rows.{part}
+use Rattle.layout.specs.Rows.{part, splice}
 use Rattle.layout.proofs.Rows.{part-length, part-at, part-is, part-cut, rows-apart}
 
 -- So many words from a place on may be others; the number of words and every other word are as before.
@@ -56,10 +56,6 @@ rows-changed start k long each i new words after same here parts = put-each
         (omega (arith, rows-apart long i j (omega (arith, ltb-false j i e)))))
 
 -- ── A part put in ─────────────────────────────────────────────────────
-
--- The words with others put in for so many from a place on.
-abbrev pub splice : ℕ → ℕ → List ℕ → List ℕ → List ℕ
-splice from long new words = take from words ++ (new ++ drop (from + long) words)
 
 module _ (from long : ℕ) (new words : List ℕ) (size : length new ≡ long) (fits : from + long ≤ length words) where
   -- The words before the part.

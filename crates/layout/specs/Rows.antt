@@ -1,5 +1,5 @@
 -- Rows of words: a table as a row, rows one after another, a part of a row, and a table read off a row.
-use Prim.Native.Nat.{ℕ, zero, suc}
+use Prim.Native.Nat.{ℕ, zero, suc, _+_}
 use mathlib.Core.List.{List, [], _∷_, _++_}
 use lib.ListN.{take, drop}
 use lib.Dec.{ltb}
@@ -18,6 +18,10 @@ rows (suc k) each = rows k each ++ each k
 -- So many words from a place on.
 abbrev pub part : ℕ → ℕ → List ℕ → List ℕ
 part from long words = take long (drop from words)
+
+-- The words with others put in for so many from a place on.
+abbrev pub splice : ℕ → ℕ → List ℕ → List ℕ → List ℕ
+splice from long new words = take from words ++ (new ++ drop (from + long) words)
 
 -- The table below m, and the same entry everywhere beyond.
 unfoldable pub below {ℓ} : {A : Type ℓ} → ℕ → A → (ℕ → A) → ℕ → A

@@ -19,7 +19,8 @@ use Rattle.layout.proofs.Holds.{Holds, holds-is}
 use Rattle.layout.proofs.Places.{handler-fits}
 use Rattle.layout.proofs.Blocks.{poured-handler}
 use Rattle.layout.proofs.OneHandler.{block-put}
-use Rattle.layout.proofs.Untouched.{Untouched, splice, splice-untouched}
+use Rattle.layout.specs.Rows.{splice}
+use Rattle.layout.proofs.Untouched.{Untouched, splice-untouched}
 use Rattle.promises.specs.Stepping.{resultOf}
 use Rattle.promises.proofs.Leaves.{Taken}
 

@@ -18,7 +18,7 @@ use Rattle.layout.specs.View.{wordSetting, viewHandler, view, pourHandler, hold
 use Rattle.layout.proofs.Holds.{Holds, holds-is}
 use Rattle.layout.proofs.Kept.{view-bounded}
 use Rattle.layout.proofs.OneHandler.{block-put}
-use Rattle.layout.proofs.Untouched.{splice}
+use Rattle.layout.specs.Rows.{splice}
 use Rattle.words.specs.Rows.{RowOf}
 use Rattle.block.specs.Blocks.{rowTable, overtakenBy, spentBy, stampedBy}
 use Rattle.turns.specs.Spans.{Spans}

@@ -11,7 +11,7 @@ use borrow.Rule.Slice.PartMut.{putMid, post-is}
 use Rattle.rules.specs.Codes.{Step}
 use Rattle.rules.specs.Replies.{Outcome}
 use Rattle.rules.specs.Register.{Handler, withHandler}
-use Rattle.layout.specs.Rows.{part}
+use Rattle.layout.specs.Rows.{part, splice}
 use Rattle.layout.specs.Places.{cellsOf, handlersOf, size, handlerStart, handlerLong, handlerPart}
 use Rattle.layout.specs.View.{viewHandler, view, pourHandler, holding}
 use Rattle.layout.specs.WellFormed.{WellFormed, GoodBlock}
@@ -21,7 +21,6 @@ use Rattle.layout.proofs.PourView.{well-holds}
 use Rattle.layout.proofs.ViewPour.{view-handler}
 use Rattle.layout.proofs.Holds.{Holds, holds-is}
 use Rattle.layout.proofs.OneHandler.{block-put}
-use Rattle.layout.proofs.Untouched.{splice}
 use Rattle.promises.specs.Stepping.{resultOf}
 use Rattle.block.specs.Blocks.{Block, OpenBlock}
 use Rattle.turns.specs.Spans.{Spans}

@@ -16,7 +16,7 @@ use Rattle.layout.specs.Places.{cellLong, cellStart}
 use Rattle.layout.specs.View.{wordSetting, pourCell}
 use Rattle.layout.proofs.Holds.{Holds}
 use Rattle.layout.proofs.OneHandler.{withCell, cell-put}
-use Rattle.layout.proofs.Untouched.{splice}
+use Rattle.layout.specs.Rows.{splice}
 use Rattle.turns.specs.Stores.{storedBelow, Stores}
 
 module _ (written : ℕ) (copies numbers : ℕ → ℕ) (r : Register ℕ) where

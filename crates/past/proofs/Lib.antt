@@ -1,0 +1,1 @@
+-- The laws of marks and of pasts over the judge's words.

@@ -1,0 +1,2 @@
+-- What asking for a past does.
+pub mod Marks
