@@ -17,6 +17,8 @@ pub mod Deeds
 pub mod Sources
 pub mod Replays
 pub mod Computed
+pub mod Alike
+pub mod AlikeNotes
 pub mod Invariant
 pub mod Reading
 pub mod Committing
