@@ -1,38 +1,18 @@
--- Searches over the cells: what a loop that looks for the first cell that passes a test answers, and the tests of the rules as a
--- block's words say them.
-use Prim.Native.Nat.{ℕ, _≤_, _<_}
-use mathlib.Core.Path.{_≡_, sym, _∙_}
-use mathlib.Core.Bool.{Bool, true, false, not, _&&_}
+-- Searches over the cells: the tests of the rules as a block's words say them.
+-- The loops that search answer by the laws of rules/proofs/Searches.antt.
+use Prim.Native.Nat.{ℕ}
+use mathlib.Core.Path.{_≡_}
+use mathlib.Core.Bool.{Bool, not, _&&_}
 use mathlib.Core.List.{List}
-use native.Mathlib.Omega.{arith}
 use lib.Dec.{eqb, ltb}
 use Rattle.rules.specs.Tables.{someBelow}
 use Rattle.rules.specs.Figure.{isTorn}
-use Rattle.rules.proofs.Tables.{same-test, some-true, some-from, some-none}
+use Rattle.rules.proofs.Searches.{some-same}
 use Rattle.layout.specs.Bits.{hasBit}
 use Rattle.layout.specs.Places.{readSetIn, writtenSetIn, transactionNumberIn}
 use Rattle.layout.specs.View.{wordSetting, viewHandler}
 use Rattle.layout.proofs.Rows.{below-inside}
 use Rattle.block.specs.Blocks.{rowTable, rowCell, overtakenBy, spentBy}
-
--- No place below y passes the test.
-abbrev pub NoneBelow : (ℕ → Bool) → ℕ → Type 0
-NoneBelow test y = (z : ℕ) → z < y → test z ≡ false
-
-module _ (m : ℕ) (test : ℕ → Bool) {answer : Bool} (asked : answer ≡ someBelow m test) where
-  -- The search ends at a place that passes.
-  pub search-hits : (y : ℕ) {found : Bool} → y < m → found ≡ test y → found ≡ true → true ≡ answer
-  search-hits y inside tested passes = sym (asked ∙ some-from m test y inside (sym tested ∙ passes))
-
-  -- The search ends behind the last place.
-  pub search-misses : {y : ℕ} → NoneBelow test y → m ≤ y → false ≡ answer
-  search-misses none all = sym (asked ∙ some-none m test (λ z h. none z (omega arith)))
-
--- Where tests agree below m, some place passes the one if and only if some place passes the other.
-some-same : (m : ℕ) (test other : ℕ → Bool) → ((y : ℕ) → y < m → test y ≡ other y) → someBelow m test ≡ someBelow m other
-some-same m test other same = same-test (someBelow m test) (someBelow m other)
-    (λ e. let place = some-true m test e in some-from m other _ (place .1) (sym (same _ (place .1)) ∙ place .2))
-    (λ e. let place = some-true m other e in some-from m test _ (place .1) (same _ (place .1) ∙ place .2))
 
 -- Cell y is in the read set, and the transaction's number is below the row's.
 abbrev pub lower : ℕ → List ℕ → List ℕ → ℕ → Bool

@@ -1,1 +1,2 @@
 -- The laws of the judge's words.
+pub mod Deeds

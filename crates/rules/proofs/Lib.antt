@@ -2,6 +2,7 @@
 -- and the history that led to it; and the cases. A wrong edit of the rules is refused first where a reader would look: at the
 -- cases, then at the attempts.
 pub mod Tables
+pub mod Searches
 pub mod Numbers
 pub mod Steps
 pub mod Given

@@ -4,7 +4,8 @@ use mathlib.Core.Path.{sym, _∙_}
 use mathlib.Core.List.{List}
 use native.Mathlib.Omega.{arith}
 use borrow.Author.Count.{below-more}
-use Rattle.block.proofs.Searches.{NoneBelow, search-hits, search-misses, filled, spent-asks}
+use Rattle.rules.proofs.Searches.{NoneBelow, search-hits, search-misses}
+use Rattle.block.proofs.Searches.{filled, spent-asks}
 use Rattle.block.proofs.checks.spent.Statement.{statement}
 use Rattle.block.proofs.checks.spent.Tie as tie
 

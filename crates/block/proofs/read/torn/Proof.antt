@@ -4,7 +4,8 @@ use mathlib.Core.Path.{sym, _∙_}
 use mathlib.Core.List.{List}
 use native.Mathlib.Omega.{arith}
 use borrow.Author.Count.{below-more}
-use Rattle.block.proofs.Searches.{NoneBelow, search-hits, search-misses, lower, torn-asks}
+use Rattle.rules.proofs.Searches.{NoneBelow, search-hits, search-misses}
+use Rattle.block.proofs.Searches.{lower, torn-asks}
 use Rattle.block.proofs.read.torn.Statement.{statement}
 use Rattle.block.proofs.read.torn.Tie as tie
 

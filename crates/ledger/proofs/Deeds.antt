@@ -1,0 +1,162 @@
+-- What an entry's deeds are, cell by cell: which reads pass a test, what was written, the copies, and what is left on a table.
+use Prim.Native.Nat.{ℕ, zero, suc, _≤_, _<_}
+use native.Mathlib.Omega.{arith}
+use mathlib.Core.Path.{_≡_, refl, sym, ap, _∙_, fun-ext}
+use mathlib.Core.Bool.{Bool, true, false, _&&_, _||_, and-true}
+use mathlib.Core.List.{List}
+use lib.Dec.{eqb, ltb}
+use borrow.Author.Tests.{ltb-true, ltb-false, lt-ltb, le-ltb, eqb-true, eqb-false, eq-eqb, ne-eqb}
+use Rattle.rules.specs.Tables.{if_then_else_, put, lowest, someBelow}
+use Rattle.rules.specs.Register.{Setting}
+use Rattle.rules.specs.History.{Deed, someLook, hasRead, hasWritten}
+use Rattle.rules.specs.Replay.{after}
+use Rattle.rules.specs.Judge.{copied}
+use Rattle.rules.proofs.Tables.{by, same-test}
+use Rattle.rules.proofs.Searches.{some-only, some-next}
+use Rattle.layout.specs.Rows.{below}
+use Rattle.layout.specs.View.{wordSetting}
+use Rattle.ledger.specs.Entries.{Entry}
+use Rattle.ledger.specs.Histories.{lookOf, setOf, deedsOf}
+
+-- A read is noted, and passes a test of cell and source.
+unfoldable pub lookPasses : (ℕ → ℕ → Bool) → ℕ → ℕ → Bool
+lookPasses test c zero = false
+lookPasses test c (suc source) = test c source
+
+-- A source is noted.
+unfoldable pub hasSource : ℕ → Bool
+hasSource zero = false
+hasSource (suc source) = true
+
+-- A place other than c is below c just where it is below the next.
+below-next : (c y : ℕ) → (y ≡ c → ⊥) → ltb y (suc c) ≡ ltb y c
+below-next c y apart = same-test (ltb y (suc c)) (ltb y c)
+    (λ e. lt-ltb y c (omega (arith, apart, ltb-true y (suc c) e)))
+    (λ e. lt-ltb y (suc c) (omega (arith, ltb-true y c e)))
+
+-- What one more cell settles, where it is noted, is in the end settled at the noted cells below m, and else as it began.
+settled-below : {A : Type 0} (f : ℕ → ℕ → A) (noted : ℕ → Bool) (settled first : ℕ → A) → ((y : ℕ) → f 0 y ≡ first y)
+    → ((c y : ℕ) → f (suc c) y ≡ (if eqb y c && noted c then (settled c) else (f c y)))
+    → (m y : ℕ) → f m y ≡ (if ltb y m && noted y then (settled y) else (first y))
+settled-below f noted settled first begins next zero y = rw (le-ltb y 0 (omega arith)) (begins y)
+settled-below f noted settled first begins next (suc c) y = by (eqb y c)
+    (λ e. let before : f c c ≡ first c = settled-below f noted settled first begins next c c ∙ rw (le-ltb c c (omega arith)) in
+    let here : f (suc c) c ≡ (if noted c then (settled c) else (first c)) = next c c ∙ rw (eq-eqb c c refl, before) in
+    rw (eqb-true y c e, lt-ltb c (suc c) (omega arith)) here)
+    (λ e. let other : f (suc c) y ≡ f c y = next c y ∙ rw e in
+    other ∙ settled-below f noted settled first begins next c y
+    ∙ ap (λ (t : Bool). if t && noted y then (settled y) else (first y)) (sym (below-next c y (eqb-false y c e))))
+
+-- ── One cell more ─────────────────────────────────────────────────────
+
+-- The deeds noted of the cell c on top of others.
+abbrev cellDeeds : Bool → ℕ → ℕ → ℕ → List (Deed ℕ) → List (Deed ℕ)
+cellDeeds isWritten source c v deeds = setOf isWritten c v (lookOf source c v deeds)
+
+-- Some read passes: the one noted of c, or one below.
+looks-next : (test : ℕ → ℕ → Bool) (isWritten : Bool) (source c v : ℕ) (deeds : List (Deed ℕ))
+    → someLook test (cellDeeds isWritten source c v deeds) ≡ lookPasses test c source || someLook test deeds
+unfolding setOf lookOf someLook lookPasses
+looks-next test true zero c v deeds = refl
+looks-next test true (suc source) c v deeds = refl
+looks-next test false zero c v deeds = refl
+looks-next test false (suc source) c v deeds = refl
+
+-- A cell is written: the one noted, or one below.
+writes-next : (isWritten : Bool) (source c v : ℕ) (deeds : List (Deed ℕ)) (y : ℕ)
+    → hasWritten (cellDeeds isWritten source c v deeds) y ≡ (if eqb y c && isWritten then true else (hasWritten deeds y))
+unfolding setOf lookOf hasWritten
+writes-next true zero c v deeds y = by (eqb y c) (λ e. rw e) (λ e. rw e)
+writes-next true (suc source) c v deeds y = by (eqb y c) (λ e. rw e) (λ e. rw e)
+writes-next false zero c v deeds y = by (eqb y c) (λ e. rw e) (λ e. rw e)
+writes-next false (suc source) c v deeds y = by (eqb y c) (λ e. rw e) (λ e. rw e)
+
+-- A copy is the one noted, or one below.
+copies-next : (S : Setting ℕ) (isWritten : Bool) (source c v : ℕ) (deeds : List (Deed ℕ)) (y : ℕ)
+    → copied S (cellDeeds isWritten source c v deeds) y
+    ≡ (if eqb y c && (hasSource source || isWritten) then v else (copied S deeds y))
+unfolding setOf lookOf copied put hasSource
+copies-next S true zero c v deeds y = by (eqb y c) (λ e. rw e) (λ e. rw e)
+copies-next S true (suc source) c v deeds y = by (eqb y c) (λ e. rw e) (λ e. rw e)
+copies-next S false zero c v deeds y = by (eqb y c) (λ e. rw e) (λ e. rw e)
+copies-next S false (suc source) c v deeds y = by (eqb y c) (λ e. rw e) (λ e. rw e)
+
+-- What is left on a table is the write noted, or what was left below.
+leaves-next : (table : ℕ → ℕ) (isWritten : Bool) (source c v : ℕ) (deeds : List (Deed ℕ)) (y : ℕ)
+    → after (cellDeeds isWritten source c v deeds) table y ≡ (if eqb y c && isWritten then v else (after deeds table y))
+unfolding setOf lookOf after put
+leaves-next table true zero c v deeds y = by (eqb y c) (λ e. rw e) (λ e. rw e)
+leaves-next table true (suc source) c v deeds y = by (eqb y c) (λ e. rw e) (λ e. rw e)
+leaves-next table false zero c v deeds y = by (eqb y c) (λ e. rw e) (λ e. rw e)
+leaves-next table false (suc source) c v deeds y = by (eqb y c) (λ e. rw e) (λ e. rw e)
+
+-- ── The read of one cell ──────────────────────────────────────────────
+
+-- A test of one cell fails of another,
+passes-other : (test : ℕ → ℕ → Bool) (y z source : ℕ) → (z ≡ y → ⊥)
+    → lookPasses (λ x k. eqb y x && test x k) z source ≡ false
+unfolding lookPasses
+passes-other test y z zero apart = refl
+passes-other test y z (suc source) apart = rw (ne-eqb y z (λ e. apart (sym e)))
+
+-- and of that one is the test.
+passes-here : (test : ℕ → ℕ → Bool) (y source : ℕ) → lookPasses (λ x k. eqb y x && test x k) y source ≡ lookPasses test y source
+unfolding lookPasses
+passes-here test y zero = refl
+passes-here test y (suc source) = rw (eq-eqb y y refl)
+
+-- A test that always holds asks only whether a source is noted.
+passes-all : (y source : ℕ) → lookPasses (λ x k. true) y source ≡ hasSource source
+unfolding lookPasses hasSource
+passes-all y zero = refl
+passes-all y (suc source) = refl
+
+-- ── All cells ─────────────────────────────────────────────────────────
+
+module _ (e : Entry) where
+  -- Some read from the cells passes a test just where a noted one does.
+  pub looks-at : (test : ℕ → ℕ → Bool) (m : ℕ) → someLook test (deedsOf e m) ≡ someBelow m (λ c. lookPasses test c (e .sources c))
+  unfolding deedsOf
+  looks-at test zero = unfold someLook someBelow lowest in refl
+  looks-at test (suc c) = looks-next test (e .written c) (e .sources c) c (e .copies c) (deedsOf e c)
+      ∙ ap (λ rest. lookPasses test c (e .sources c) || rest) (looks-at test c)
+      ∙ sym (some-next c (λ y. lookPasses test y (e .sources y)))
+
+  -- The cells written are the noted ones below m.
+  pub writes-at : (m y : ℕ) → hasWritten (deedsOf e m) y ≡ (if ltb y m && e .written y then true else false)
+  unfolding deedsOf
+  writes-at = settled-below (λ m. hasWritten (deedsOf e m)) (e .written) (λ _. true) (λ _. false) (λ y. unfold hasWritten in refl)
+      (λ c y. writes-next (e .written c) (e .sources c) c (e .copies c) (deedsOf e c) y)
+
+  -- The copies are the noted ones below m.
+  pub copies-at : (S : Setting ℕ) (m y : ℕ)
+      → copied S (deedsOf e m) y ≡ (if ltb y m && (hasSource (e .sources y) || e .written y) then (e .copies y) else (S .empty))
+  unfolding deedsOf
+  copies-at S = settled-below (λ m. copied S (deedsOf e m)) (λ c. hasSource (e .sources c) || e .written c) (e .copies)
+      (λ _. S .empty) (λ y. unfold copied in refl)
+      (λ c y. copies-next S (e .written c) (e .sources c) c (e .copies c) (deedsOf e c) y)
+
+  -- What is left on a table is the copy at the written cells below m.
+  pub leaves-at : (table : ℕ → ℕ) (m y : ℕ)
+      → after (deedsOf e m) table y ≡ (if ltb y m && e .written y then (e .copies y) else (table y))
+  unfolding deedsOf
+  leaves-at table = settled-below (λ m. after (deedsOf e m) table) (e .written) (e .copies) table (λ y. unfold after in refl)
+      (λ c y. leaves-next table (e .written c) (e .sources c) c (e .copies c) (deedsOf e c) y)
+
+  -- A read of a cell below m passes a test just where the noted one does.
+  pub look-at : (test : ℕ → ℕ → Bool) (m y : ℕ) → y < m
+      → someLook (λ z source. eqb y z && test z source) (deedsOf e m) ≡ lookPasses test y (e .sources y)
+  look-at test m y inside =
+      looks-at (λ z source. eqb y z && test z source) m
+      ∙ some-only m _ y inside (λ z apart. passes-other test y z (e .sources z) apart) ∙ passes-here test y (e .sources y)
+
+  -- A cell below m was read from the cells just where its source is noted.
+  pub reads-at : (m x : ℕ) → x < m → hasRead (deedsOf e m) x ≡ hasSource (e .sources x)
+  unfolding hasRead
+  reads-at m x inside =
+      ap (λ test. someLook test (deedsOf e m)) (fun-ext (λ z. fun-ext (λ source. sym (and-true (eqb x z)))))
+      ∙ look-at (λ z source. true) m x inside ∙ passes-all x (e .sources x)
+
+  -- A cell below m was written just where that is noted.
+  pub written-at : (m x : ℕ) → x < m → hasWritten (deedsOf e m) x ≡ e .written x
+  written-at m x inside = writes-at m x ∙ rw (lt-ltb x m inside) (by (e .written x) (λ t. rw t) (λ t. rw t))
