@@ -1,0 +1,1 @@
+-- The laws of what is asked of the judge's words.

@@ -1,0 +1,2 @@
+-- What is asked of the judge's words.
+pub mod Asking
