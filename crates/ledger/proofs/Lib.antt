@@ -5,3 +5,4 @@ pub mod Entries
 pub mod Tested
 pub mod Histories
 pub mod Notes
+pub mod Outcomes
