@@ -6,3 +6,4 @@ pub mod Tested
 pub mod Histories
 pub mod Notes
 pub mod Outcomes
+pub mod Steps

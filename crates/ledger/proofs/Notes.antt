@@ -42,6 +42,24 @@ module _ {words : List ℕ} (ledger : Ledger words) (place : ℕ) (e : Entry) (l
     few = omega (arith, head-kept 2 (omega arith), ledger .few);
   }
 
+-- Words are a ledger of the same m and n as before.
+pub record Keeps (words after : List ℕ) : Type 0 where
+  pub ledger : Ledger after
+  pub cells : cellsOf after ≡ cellsOf words
+  pub handlers : handlersOf after ≡ handlersOf words
+
+-- They keep themselves so,
+pub keeps-itself : {words : List ℕ} → Ledger words → Keeps words words
+keeps-itself ledger = record { ledger = ledger; cells = refl; handlers = refl }
+
+-- and an entry put in does.
+pub entry-keeps : {words : List ℕ} → Ledger words → (place : ℕ) (e : Entry) → 1 ≤ place → place ≤ 80 → Keeps words (withEntry words place e)
+entry-keeps ledger place e low high = record {
+  ledger = with-ledger ledger place e low high;
+  cells = head-kept ledger place e low high 0 (omega arith);
+  handlers = head-kept ledger place e low high 1 (omega arith);
+}
+
 module _ {words : List ℕ} (ledger : Ledger words) {i : ℕ} (seat : i < handlersOf words) where
   -- The handler's row lies behind the head and before the commits.
   pub seated : handlerRow i ≤ 16
@@ -133,10 +151,27 @@ module _ {words : List ℕ} (ledger : Ledger words) {i : ℕ} (seat : i < handle
       ∙ head-kept noted-ledger (handlerRow i) (emptyEntry 0) (omega arith) (omega (arith, seated ledger seat)) k l
       ∙ head-kept ledger (commitRow place) new (omega arith) (omega arith) k l
 
+  -- There are as many words.
+  counted-length : length (noteCommit words i) ≡ length cleared
+  unfolding noteCommit
+  counted-length = length-set cleared 2 place
+
   -- The number of commits is one more.
   pub commit-counted : commitsNoted (noteCommit words i) ≡ place
   unfolding noteCommit
   commit-counted = getD-set-same cleared 2 place 0 (omega (arith, cleared-ledger .long))
+
+  -- The words are a ledger of the same m and n.
+  pub commit-keeps : Keeps words (noteCommit words i)
+  commit-keeps = record {
+    ledger = record {
+      long = omega (arith, cleared-ledger .long, counted-length);
+      range = subst₂ InRange (sym (head-counted 0 (omega arith) (omega arith))) (sym (head-counted 1 (omega arith) (omega arith))) (ledger .range);
+      few = omega (arith, commit-counted);
+    };
+    cells = head-counted 0 (omega arith) (omega arith);
+    handlers = head-counted 1 (omega arith) (omega arith);
+  }
 
   -- A row is as the entries put in leave it.
   row-counted : (row : ℕ) → 1 ≤ row → SameEntry (entryIn (noteCommit words i) row) (entryIn cleared row)

@@ -1,5 +1,6 @@
 -- After every outcome of a step that no check refuses, the words say the history that the rules note.
 use Prim.Native.Nat.{ℕ, zero, suc, _<_}
+use native.Mathlib.Omega.{arith}
 use mathlib.Core.Path.{_≡_, refl, sym, ap, _∙_, subst}
 use mathlib.Core.Bool.{Bool, true, false, _||_}
 use mathlib.Core.List.{List, [], _∷_}
@@ -24,7 +25,8 @@ use Rattle.ledger.specs.Promises.{isCommit}
 use Rattle.ledger.proofs.Deeds.{hasSource, reads-at, written-at}
 use Rattle.ledger.proofs.Noted.{read-noted, write-noted}
 use Rattle.ledger.proofs.Histories.{empty-deeds, same-deeds}
-use Rattle.ledger.proofs.Notes.{now-is, opened-is, handler-noted, commit-noted}
+use Rattle.ledger.proofs.Notes.{Keeps, keeps-itself, entry-keeps, seated, now-is, opened-is, handler-noted}
+use Rattle.ledger.proofs.Notes.{commit-keeps, commit-noted}
 
 -- A repeated read is no deed that an answer asks.
 again-same : {S : Setting ℕ} (x v : ℕ) (deeds : List (Deed ℕ)) → SameDeeds S (again x v ∷ deeds) deeds
@@ -106,6 +108,10 @@ module _ {words : List ℕ} (ledger : Ledger words) {i : ℕ} (seat : i < handle
         (λ e. rw e (first-is-noted x (writer (h .commits) x) v inside (or-left (hasRead (h .now i) x) (hasWritten (h .now i) x) e)
         (or-right (hasRead (h .now i) x) (hasWritten (h .now i) x) e)))
 
+  -- An entry put in for the handler keeps the words a ledger.
+  entry-put : (e : Entry) → Keeps words (withEntry words (handlerRow i) e)
+  entry-put e = entry-keeps ledger (handlerRow i) e (omega arith) (omega (arith, seated ledger seat))
+
   -- Whatever a step comes to is noted, if there is room for one more commit where it is one.
   pub outcome-noted : (s : Step) (v : ℕ) (outcome : Outcome ℕ) → Within (cellsOf words) s → h .opened i ≡ phaseFor s
       → (isCommit outcome ≡ true → commitsNoted words < mostCommits)
@@ -121,3 +127,20 @@ module _ {words : List ℕ} (ledger : Ledger words) {i : ℕ} (seat : i < handle
   outcome-noted try v (value w) inside phase room = history-refl
   outcome-noted s v committed inside phase room = commit-noted ledger seat (room refl) (h .aborts)
   outcome-noted s v (aborted reason) inside phase room = end-noted
+
+  -- Whatever a step comes to, the words are a ledger of the same m and n afterwards.
+  pub outcome-keeps : (s : Step) (v : ℕ) (outcome : Outcome ℕ) → (isCommit outcome ≡ true → commitsNoted words < mostCommits)
+      → Keeps words (noteOutcome words i s v outcome)
+  unfolding noteOutcome noteRead
+  outcome-keeps begin v ok room = entry-put (emptyEntry 1)
+  outcome-keeps (write x) v ok room = entry-put (writtenEntry entry x v)
+  outcome-keeps (read x) v ok room = keeps-itself ledger
+  outcome-keeps try v ok room = keeps-itself ledger
+  outcome-keeps (read x) v (value w) room = by (hasRead (h .now i) x || hasWritten (h .now i) x)
+      (λ e. rw e (keeps-itself ledger))
+      (λ e. rw e (entry-put (readEntry entry x (writer (h .commits) x) w)))
+  outcome-keeps begin v (value w) room = keeps-itself ledger
+  outcome-keeps (write x) v (value w) room = keeps-itself ledger
+  outcome-keeps try v (value w) room = keeps-itself ledger
+  outcome-keeps s v committed room = commit-keeps ledger seat (room refl)
+  outcome-keeps s v (aborted reason) room = entry-put (emptyEntry 0)

@@ -147,14 +147,14 @@ module _ {W : Type 0} (S : Setting W) (r : Register W) (h : History W) (i : ℕ)
 
 -- ── Every list of steps ───────────────────────────────────────────────
 
-module _ {W : Type 0} (S : Setting W) (n : ℕ) where
-  -- A refusal is not noted.
-  note-refused : (h : History W) (i : ℕ) (kind : Kind) (v : W) (refusal : Refusal)
-      → noteReply h i kind v (Reply.refused refusal) ≡ h
-  unfolding noteReply
-  note-refused h i (known s) v refusal = refl
-  note-refused h i unknown v refusal = refl
+-- A refusal is not noted.
+pub note-refused : {W : Type 0} (h : History W) (i : ℕ) (kind : Kind) (v : W) (refusal : Refusal)
+    → noteReply h i kind v (Reply.refused refusal) ≡ h
+unfolding noteReply
+note-refused h i (known s) v refusal = refl
+note-refused h i unknown v refusal = refl
 
+module _ {W : Type 0} (S : Setting W) (n : ℕ) where
   -- Every turn, refused or taken.
   pub turn-kept : (r : Register W) (h : History W) (i code : ℕ) (v : W) → Kept S r h
       → Kept S (turn S n true r i code v .after) (noteReply h i (kindOf code) v (turn S n true r i code v .reply))
