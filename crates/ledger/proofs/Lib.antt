@@ -5,5 +5,6 @@ pub mod Entries
 pub mod Tested
 pub mod Histories
 pub mod Notes
+pub mod Opened
 pub mod Outcomes
 pub mod Steps
