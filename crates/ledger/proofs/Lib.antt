@@ -1,1 +1,2 @@
--- The laws of the judge's words.
+-- The laws of the judge's words, in the order in which they are best read.
+pub mod Commits
