@@ -1,5 +1,4 @@
 -- A file's run place by place is the run that the rules say.
-pub mod Shows
 pub mod Ends
 pub mod Scripts
 pub mod Places

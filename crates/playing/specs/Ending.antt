@@ -6,19 +6,10 @@ use mathlib.Core.List.{List}
 use mathlib.Core.Option.{Option, none, some}
 use lib.Dec.{ltb}
 use Rattle.rules.specs.Tables.{if_then_else_}
-use Rattle.rules.specs.Register.{Cell}
 use Rattle.layout.specs.Places.{cellsOf, handlersOf}
 use Rattle.layout.specs.View.{view}
 use Rattle.layout.specs.WellFormed.{isWellFormed}
-
--- A cell's value and its own number.
-pub record CellLine : Type 0 where
-  pub value : ℕ
-  pub number : ℕ
-
--- What is shown of cell c.
-abbrev pub cellLine : ℕ → Cell ℕ → CellLine
-cellLine c cell = record { value = cell .value; number = cell .numbers c }
+use Rattle.schedule.specs.Shown.{CellLine, cellLine}
 
 -- What is shown of cell c of the register that the words say, if they say one that has it.
 unfoldable pub endOf : List ℕ → ℕ → Option CellLine

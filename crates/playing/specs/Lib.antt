@@ -1,3 +1,2 @@
--- What is shown of a run.
+-- What is shown of a cell at the end of a run.
 pub mod Ending
-pub mod Shown

@@ -1,38 +1,13 @@
 // The run of a schedule file, one order place after another, and what is shown of a cell at the end.
 // PUBLIC: nothing here has a `requires`. Each promise fixes the reply and every word of the register, for all inputs.
 ghost use Rattle.schedule.specs.Lines.{theRegister, PlacePromise};
+ghost use Rattle.schedule.specs.Shown.{lineIs, endIs};
 ghost use Rattle.playing.specs.Ending.{EndPromise};
-ghost use Rattle.playing.specs.Shown.{lineIs, endIs};
-use replies::Answer;
-use replies::Refusal;
 use schedule::Cursors;
+use schedule::End;
 use schedule::Next;
-
-// What a place shows: nothing where the order has no such place, a refusal where no step was taken, or the answer to a step.
-pub enum Shown {
-    Nothing,
-    NoStep {
-        handler: u32,
-        refusal: Refusal,
-    },
-    Asked {
-        handler: u32,
-        code: u32,
-        answer: Answer,
-    },
-}
-
-// What a place shows, and the cursors afterwards.
-pub struct Placed {
-    pub shown: Shown,
-    pub cursors: Cursors,
-}
-
-// What is shown of a cell at the end, if the register has such a cell.
-pub enum End {
-    Cell { value: u32, number: u32 },
-    Missing,
-}
+use schedule::Placed;
+use schedule::Shown;
 
 // Takes one order place of a file: the step that it names is asked of the register.
 pub fn play_place(file: &[u8], cursors: Cursors, place: usize, words: &mut [u32]) -> Placed

@@ -1,13 +1,6 @@
 // Runs the schedule file on standard input: a header, a line for each order place, then each cell. A refused file prints the one
 // line `refused N`.
-mod lines;
-
-use crate::lines::print_cell;
-use crate::lines::print_header;
-use crate::lines::print_place;
-use crate::lines::print_refused;
 use libc::STDIN_FILENO;
-use playing::Shown;
 use replies::Opened;
 use schedule::Judged;
 
@@ -18,7 +11,7 @@ fn run_order(file: &[u8], words: &mut [u32]) {
         let placed = playing::play_place(file, cursors, place, words);
         cursors = placed.cursors;
         let shown = placed.shown;
-        print_place(place, shown);
+        lines::print_place(place, shown);
     }
 }
 
@@ -26,7 +19,7 @@ fn run_order(file: &[u8], words: &mut [u32]) {
 fn show_cells(words: &[u32], cells: u32) {
     for c in 0..cells {
         let end = playing::cell_end(words, c);
-        print_cell(c, end);
+        lines::print_cell(c, end);
     }
 }
 
@@ -36,7 +29,7 @@ fn run_file(file: &[u8], handlers: u32, cells: u32) {
     let Opened::Ready = register::open(&mut words, cells, handlers) else {
         return;
     };
-    print_header(handlers, cells);
+    lines::print_header(handlers, cells);
     run_order(file, &mut words);
     show_cells(&words, cells);
 }
@@ -48,6 +41,6 @@ fn main() {
     let file = &buffer[..count];
     match schedule::judge_file(file) {
         Judged::Sound { handlers, cells } => run_file(file, handlers, cells),
-        Judged::Rejected(refusal) => print_refused(refusal),
+        Judged::Rejected(refusal) => lines::print_refused(refusal),
     }
 }

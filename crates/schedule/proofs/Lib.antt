@@ -6,4 +6,6 @@ pub mod Finds
 pub mod Takes
 pub mod Nexts
 pub mod Apart
+pub mod ShownApart
 pub mod Tight
+pub mod Shows

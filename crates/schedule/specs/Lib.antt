@@ -7,5 +7,6 @@ pub mod Finding
 pub mod Taking
 pub mod Runs
 pub mod Lines
+pub mod Shown
 pub mod Meaning
 pub mod Fronts

@@ -2,7 +2,7 @@
 use mathlib.Core.Path.{refl}
 use borrow.Author.Needs.{needs}
 use Rattle.schedule.specs.Lines.{theRegister, lineFor, wordsFor}
-use Rattle.playing.proofs.Shows.{place-shows, asked-shows}
+use Rattle.schedule.proofs.Shows.{place-shows, asked-shows}
 use Rattle.playing.proofs.play_place.Statement.{statement}
 use Rattle.playing.proofs.play_place.Tie as tie
 
@@ -18,12 +18,13 @@ play-place-spec =
     (λ c. search needs)
     (λ c κs. search needs)
     -- the file is refused
-    (λ c. place-shows (c .before .before .before .next-step .ensures) (c .enum-told .given .1) refl refl)
+    (λ c. place-shows theRegister (c .before .before .before .next-step .ensures) (c .enum-told .given .1) refl refl)
     -- the order is over
-    (λ c. place-shows (c .before .before .before .next-step .ensures) (c .enum-told2 .given .1) refl refl)
+    (λ c. place-shows theRegister (c .before .before .before .next-step .ensures) (c .enum-told2 .given .1) refl refl)
     -- no step was taken
-    (λ c. place-shows (c .before .before .before .before .next-step .ensures) (c .before .next .given .1) refl refl)
+    (λ c. place-shows theRegister (c .before .before .before .before .next-step .ensures) (c .before .next .given .1) refl refl)
     (λ c. search needs)
     -- a step was asked
     (λ c. let promise = c .before .before .before .before .before .before .before .before .next-step .ensures in
-    asked-shows promise (c .before .before .before .before .before .next2 .given .1) (c .before .before .step .ensures)))
+    let step = c .before .before .step in
+    asked-shows theRegister promise (c .before .before .before .before .before .next2 .given .1) (step .ensures .replied) (step .ensures .left)))

@@ -1,10 +1,11 @@
-// The lines that the runner prints.
+// The lines of a run on standard output, the same for every program that runs a schedule file.
+// PUBLIC: nothing here has a `requires`. Nothing is answered and nothing lent, so there is no promise beside that each function ends.
 use libc::STDOUT_FILENO;
-use playing::End;
-use playing::Shown;
 use replies::Answer;
 use replies::Outcome;
 use replies::Refusal;
+use schedule::End;
+use schedule::Shown;
 
 // A text.
 fn text(bytes: &[u8]) {

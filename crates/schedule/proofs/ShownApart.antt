@@ -1,0 +1,53 @@
+-- Nothing is lost in what a run shows: different things shown are different lines. Each can be read back.
+use Prim.Native.Nat.{ℕ}
+use mathlib.Core.Path.{_≡_, refl, ap}
+use mathlib.Core.Option.{Option, none, some}
+use Rattle.rules.proofs.Numbers.{Injective, read-back}
+use Rattle.replies.specs.declared.Answer.{Answer}
+use Rattle.replies.specs.declared.Answer.the-variants.{Reported, Refused}
+use Rattle.replies.specs.declared.Refusal.{Refusal}
+use Rattle.replies.specs.declared.Refusal.the-variants.{NotWellFormed}
+use Rattle.replies.proofs.Apart.{answerBack, answer-same}
+use Rattle.schedule.specs.Runs.{Line}
+use Rattle.schedule.specs.declared.Shown.{Shown}
+use Rattle.schedule.specs.declared.Shown.the-variants.{Nothing, NoStep, Asked}
+use Rattle.schedule.specs.declared.End.{End}
+use Rattle.schedule.specs.declared.End.the-variants.{Cell, Missing}
+use Rattle.schedule.specs.Shown.{lineIs, CellLine, endIs}
+
+-- The refusal of an answer; any other where it is none.
+refusalIn : Answer → Refusal
+refusalIn (Refused refusal) = refusal
+refusalIn (Reported report) = NotWellFormed
+
+-- What is shown, by the line.
+shownBack : Option Line → Shown
+shownBack none = Nothing
+shownBack (some line) = byCode (line .code)
+  where
+    byCode : Option ℕ → Shown
+    byCode none = NoStep (line .handler) (refusalIn (answerBack (line .reply)))
+    byCode (some code) = Asked (line .handler) code (answerBack (line .reply))
+
+shown-same : (place : ℕ) (shown : Shown) → shownBack (lineIs place shown) ≡ shown
+unfolding shownBack refusalIn
+shown-same place Nothing = refl
+shown-same place (NoStep handler refusal) = ap (λ answer. NoStep handler (refusalIn answer)) (answer-same (Refused refusal))
+shown-same place (Asked handler code answer) = ap (Asked handler code) (answer-same answer)
+
+endBack : Option CellLine → End
+endBack (some line) = Cell (line .value) (line .number)
+endBack none = Missing
+
+end-same : (end : End) → endBack (endIs end) ≡ end
+unfolding endBack
+end-same (Cell value number) = refl
+end-same Missing = refl
+
+-- Different things shown at a place are different lines, or one is none.
+pub shown-apart : (place : ℕ) → Injective (lineIs place)
+shown-apart place = read-back (lineIs place) shownBack (shown-same place)
+
+-- Different ends are different lines, or one is none.
+pub ends-apart : Injective endIs
+ends-apart = read-back endIs endBack end-same
