@@ -10,3 +10,4 @@ pub mod Outcomes
 pub mod Steps
 pub mod Opened
 pub mod Tight
+pub mod Exactly

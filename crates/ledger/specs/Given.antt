@@ -36,4 +36,4 @@ JudgeGiven tooShort words i code = RulesGive tooShort words i code
 JudgeGiven badFile words i code = RulesGive badFile words i code
 JudgeGiven usedUp words i code = RulesGive usedUp words i code
 JudgeGiven tooManyCommits words i code =
-    Ledger words × ((commitsNoted words ≡ mostCommits) × (toldBy words i code ≡ reportedTo i code committed))
+    Ledger words × (commitsNoted words ≡ mostCommits) × (toldBy words i code ≡ reportedTo i code committed)
