@@ -93,12 +93,16 @@ module _ (words : List ℕ) (i code : ℕ) where
   unfolding limited
   too-many (ledger, noted, told) = reply-limited ledger i code ∙ rw (noted, told)
 
-  -- and a refusal of the rules is refused so.
+  -- and what the rules give is refused with their number.
   others-refuse : (refusal : Refusal) → RulesGive refusal words i code → judgedReply words i code ≡ Reply.refused refusal
   others-refuse refusal (ledger, given) =
       reply-limited ledger i code
-      ∙ ap (limited (commitsNoted words)) (judged-refused (wordSetting (cellsOf words)) (handlersOf words) (historyIn words) i code refusal given)
+      ∙ ap (limited (commitsNoted words)) (judged-refused _ (handlersOf words) (historyIn words) i code refusal given)
       ∙ limited-other (commitsNoted words) (Reply.refused refusal) refl
+
+  -- So a step that is given a number is refused with it.
+  given-refuses : (refusal : Refusal) → JudgeGiven refusal words i code → judgedReply words i code ≡ Reply.refused refusal
+  given-refuses = refusal-cases (λ refusal Gives. Gives → judgedReply words i code ≡ Reply.refused refusal) no-ledger too-many others-refuse
 
   -- The judge gives one refusal, or it reports.
   abbrev Decided : Type 0
@@ -129,9 +133,8 @@ module _ {words : List ℕ} {handler code value : ℕ} {reply : Reply ℕ} {afte
   -- A step is refused with each number exactly then.
   pub judge-refused : (refusal : Refusal) → (reply ≡ Reply.refused refusal) ↔ JudgeGiven refusal words handler code
   judge-refused refusal =
-      let gives = refusal-cases words handler code (λ other Gives. Gives → judgedReply words handler code ≡ Reply.refused other)
-      (no-ledger words handler code) (too-many words handler code) (others-refuse words handler code) in
-      let given = refused-exactly (λ other. JudgeGiven other words handler code) gives (decided words handler code) refusal in
+      let given = refused-exactly (λ other. JudgeGiven other words handler code) (given-refuses words handler code)
+      (decided words handler code) refusal in
       (λ e. given .0 (sym (p .replied) ∙ e), λ g. p .replied ∙ given .1 g)
 
   -- A refused step changes no word.
