@@ -41,7 +41,7 @@ judgement-cases S n h i code Q isRefused isFree = found (firstHit (stepChecks (a
 -- What reports no commit is within every limit,
 pub limited-other : (noted : ℕ) (reply : Reply ℕ) → reportsCommit reply ≡ false → limited noted reply ≡ reply
 unfolding limited
-limited-other noted reply other = rw (other, and-false (leb mostCommits noted))
+limited-other noted reply other = rw (other, and-false)
 
 -- and a report is, unless it is of a commit and there is no room for one.
 limited-cases : (noted : ℕ) (Q : Reply ℕ → Type 0) (i code : ℕ) (outcome : Outcome ℕ) → Q (Reply.refused tooManyCommits)
