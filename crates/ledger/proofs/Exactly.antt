@@ -1,6 +1,6 @@
 -- The judge gives each refusal exactly when its condition holds, and then no word is changed. It never answers abort 3, and with 64
 -- commits noted it still answers all that is no commit.
-use Prim.Native.Nat.{ℕ, zero, suc, _<_}
+use Prim.Native.Nat.{ℕ, _<_}
 use native.Mathlib.Omega.{arith}
 use mathlib.Core.Path.{_≡_, refl, sym, ap, _∙_}
 use mathlib.Core.Bool.{true, false, _&&_, true≢false}
@@ -28,11 +28,12 @@ use Rattle.layout.specs.Places.{cellsOf, handlersOf}
 use Rattle.layout.specs.View.{wordSetting}
 use Rattle.promises.proofs.Exactly.{opening-said, opening-given}
 use Rattle.ledger.specs.Entries.{ledgerLong, mostCommits, commitsNoted, Ledger, isLedger}
-use Rattle.ledger.specs.Histories.{commitsIn, historyIn}
+use Rattle.ledger.specs.Histories.{historyIn}
 use Rattle.ledger.specs.Noting.{noteWords}
 use Rattle.ledger.specs.Promises.{ledgerRefusal, ledgerWords, LedgerPromise, isCommit, limited, judgedReply, JudgePromise}
 use Rattle.ledger.specs.Given.{toldBy, RulesGive, JudgeGiven}
 use Rattle.ledger.proofs.Tested.{tested}
+use Rattle.ledger.proofs.Commits.{commits-count}
 use Rattle.ledger.proofs.Steps.{limited-other, refusal-unnoted, reply-limited, reply-cases}
 
 -- ── Opening ───────────────────────────────────────────────────────────
@@ -144,12 +145,6 @@ module _ {words : List ℕ} {handler code value : ℕ} {reply : Reply ℕ} {afte
       ∙ refusal-unnoted words handler (kindOf code) value refusal
 
 -- ── Aborts ────────────────────────────────────────────────────────────
-
--- The first so many commits are so many.
-commits-count : (m : ℕ) (words : List ℕ) (k : ℕ) → length (commitsIn m words k) ≡ k
-unfolding commitsIn
-commits-count m words zero = refl
-commits-count m words (suc k) = ap suc (commits-count m words k)
 
 -- A ledger notes too few commits for any number to be spent.
 short-history : (words : List ℕ) → Ledger words → length (historyIn words .commits) < 65535
