@@ -44,7 +44,7 @@ module _ (S : Setting ℕ) (e : Entry) (m x v : ℕ) (inside : x < m) where
   unfolding readEntry
   read-elsewhere source y apart = record {
     written = refl;
-    sources = sym (put-other (e .sources) x (suc source) y apart);
+    sources = sym (put-other (e .sources) x _ y apart);
     copies = sym (put-other (e .copies) x v y apart);
   }
 
@@ -52,7 +52,7 @@ module _ (S : Setting ℕ) (e : Entry) (m x v : ℕ) (inside : x < m) where
   write-elsewhere : (y : ℕ) → (y ≡ x → ⊥) → SameAt e (writtenEntry e x v) y
   unfolding writtenEntry
   write-elsewhere y apart = record {
-    written = sym (put-other (e .written) x true y apart);
+    written = sym (put-other (e .written) x _ y apart);
     sources = refl;
     copies = sym (put-other (e .copies) x v y apart);
   }

@@ -143,6 +143,16 @@ module _ {words : List ℕ} (ledger : Ledger words) {i : ℕ} (seat : i < handle
   cleared-ledger : Ledger cleared
   cleared-ledger = with-ledger noted-ledger (handlerRow i) (emptyEntry 0) (omega arith) (omega (arith, seated ledger seat))
 
+  -- The number of commits changes no row,
+  row-counted : (row : ℕ) → 1 ≤ row → SameEntry (entryIn (noteCommit words i) row) (entryIn cleared row)
+  unfolding noteCommit
+  row-counted row low = entry-kept cleared (set cleared 2 _) row (λ y l. getD-set-other cleared 2 (row * 66 + y) _ 0 (omega arith))
+
+  -- and is one more.
+  pub commit-counted : commitsNoted (noteCommit words i) ≡ place
+  unfolding noteCommit
+  commit-counted = getD-set-same cleared 2 place 0 (omega (arith, cleared-ledger .long))
+
   -- Of the head only the number of commits changes.
   head-counted : (k : ℕ) → k < 66 → (k ≡ 2 → ⊥) → getD (noteCommit words i) k 0 ≡ getD words k 0
   unfolding noteCommit
@@ -156,11 +166,6 @@ module _ {words : List ℕ} (ledger : Ledger words) {i : ℕ} (seat : i < handle
   unfolding noteCommit
   counted-length = length-set cleared 2 place
 
-  -- The number of commits is one more.
-  pub commit-counted : commitsNoted (noteCommit words i) ≡ place
-  unfolding noteCommit
-  commit-counted = getD-set-same cleared 2 place 0 (omega (arith, cleared-ledger .long))
-
   -- The words are a ledger of the same m and n.
   pub commit-keeps : Keeps words (noteCommit words i)
   commit-keeps = record {
@@ -172,12 +177,6 @@ module _ {words : List ℕ} (ledger : Ledger words) {i : ℕ} (seat : i < handle
     cells = head-counted 0 (omega arith) (omega arith);
     handlers = head-counted 1 (omega arith) (omega arith);
   }
-
-  -- A row is as the entries put in leave it.
-  row-counted : (row : ℕ) → 1 ≤ row → SameEntry (entryIn (noteCommit words i) row) (entryIn cleared row)
-  unfolding noteCommit
-  row-counted row low = entry-kept cleared (set cleared 2 place) row
-      (λ y l. getD-set-other cleared 2 (row * 66 + y) place 0 (omega arith))
 
   -- Another row than the handler's is as the new commit's entry leaves it.
   row-noted : (row : ℕ) → 1 ≤ row → (row ≡ handlerRow i → ⊥) → SameEntry (entryIn (noteCommit words i) row) (entryIn noted row)

@@ -1,18 +1,14 @@
 -- The judge's step: which replies it can give, and that the words it leaves say the history with the reply noted.
-use Prim.Native.Nat.{ℕ, suc, _≤_, _<_}
-use native.Mathlib.Omega.{arith}
-use mathlib.Core.Path.{_≡_, refl, sym, ap, _∙_, subst}
-use mathlib.Core.Bool.{true, _&&_, and-false}
+use Prim.Native.Nat.{ℕ, _<_}
+use mathlib.Core.Path.{_≡_, refl, sym, subst}
+use mathlib.Core.Bool.{true, false, _&&_, and-false}
 use mathlib.Core.List.{List}
-use mathlib.Core.Option.{Option}
-use lib.ListN.{length}
 use lib.Dec.{leb}
 use borrow.Author.Tests.{leb-false}
-use Rattle.rules.specs.Tables.{if_then_else_}
 use Rattle.rules.specs.Codes.{Step, Kind, known, unknown, kindOf}
-use Rattle.rules.specs.Replies.{Outcome, Refusal, tooManyCommits, Reply, reported}
+use Rattle.rules.specs.Replies.{Outcome, Refusal, tooManyCommits, Reply}
 use Rattle.rules.specs.Register.{Setting}
-use Rattle.rules.specs.Checks.{Asked, firstHit, stepChecks}
+use Rattle.rules.specs.Checks.{firstHit, stepChecks}
 use Rattle.rules.specs.Given.{Free}
 use Rattle.rules.specs.History.{History, noteReply}
 use Rattle.rules.specs.Demand.{reportedTo}
@@ -27,7 +23,7 @@ use Rattle.layout.specs.View.{wordSetting}
 use Rattle.ledger.specs.Entries.{Ledger, commitsNoted, mostCommits}
 use Rattle.ledger.specs.Histories.{historyIn}
 use Rattle.ledger.specs.Noting.{noteOutcome, noteWords}
-use Rattle.ledger.specs.Promises.{isCommit, reportsCommit, limited, judgedReply, JudgePromise}
+use Rattle.ledger.specs.Promises.{isCommit, reportsCommit, limited, judgedReply}
 use Rattle.ledger.proofs.Tested.{tested}
 use Rattle.ledger.proofs.Notes.{Keeps, keeps-itself}
 use Rattle.ledger.proofs.Outcomes.{outcome-noted, outcome-keeps}
@@ -42,10 +38,10 @@ judgement-cases S n h i code Q isRefused isFree = found (firstHit (stepChecks (a
     (λ e. let free = free-exactly (askedByHistory S n h i code) .0 e in
     subst Q (sym (judged-free S n h i code (free .0) (free .1))) (isFree (free .0) (free .1)))
 
--- A refusal is within every limit,
-limited-refusal : (noted : ℕ) (refusal : Refusal) → limited noted (Reply.refused refusal) ≡ Reply.refused refusal
+-- What reports no commit is within every limit,
+pub limited-other : (noted : ℕ) (reply : Reply ℕ) → reportsCommit reply ≡ false → limited noted reply ≡ reply
 unfolding limited
-limited-refusal noted refusal = rw (and-false (leb mostCommits noted))
+limited-other noted reply other = rw (other, and-false)
 
 -- and a report is, unless it is of a commit and there is no room for one.
 limited-cases : (noted : ℕ) (Q : Reply ℕ → Type 0) (i code : ℕ) (outcome : Outcome ℕ) → Q (Reply.refused tooManyCommits)
@@ -56,6 +52,13 @@ limited-cases noted Q i code outcome isRefused isReported = by (leb mostCommits 
     (λ e. rw e isRefused)
     (λ e. rw e (isReported (λ commits. leb-false mostCommits noted
     (by (leb mostCommits noted) (λ full. both-ways (and-both (leb mostCommits noted) (isCommit outcome) full commits) e) (λ room. room)))))
+
+-- A refusal changes no word.
+pub refusal-unnoted : (words : List ℕ) (i : ℕ) (kind : Kind) (v : ℕ) (refusal : Refusal)
+    → noteWords words i kind v (Reply.refused refusal) ≡ words
+unfolding noteWords
+refusal-unnoted words i (known s) v refusal = refl
+refusal-unnoted words i unknown v refusal = refl
 
 module _ {words : List ℕ} (ledger : Ledger words) (i code : ℕ) where
   -- The rules over these words, and the history that they say.
@@ -77,7 +80,7 @@ module _ {words : List ℕ} (ledger : Ledger words) (i code : ℕ) where
       → Q (judgedReply words i code)
   reply-cases Q isRefused isFree = subst Q (sym reply-limited)
       (judgement-cases S (handlersOf words) h i code (λ reply. Q (limited (commitsNoted words) reply))
-      (λ refusal. subst Q (sym (limited-refusal (commitsNoted words) refusal)) (isRefused refusal))
+      (λ refusal. subst Q (sym (limited-other (commitsNoted words) (Reply.refused refusal) refl)) (isRefused refusal))
       (λ s free. limited-cases (commitsNoted words) Q i code (answer S h i s) (isRefused tooManyCommits) (isFree s free)))
 
   -- The words afterwards are those before where the step is refused, and else those with its outcome noted.
@@ -89,15 +92,11 @@ module _ {words : List ℕ} (ledger : Ledger words) (i code : ℕ) where
       → Q (judgedReply words i code) (kindOf code) (noteWords words i (kindOf code) v (judgedReply words i code))
   unfolding noteWords
   after-cases v Q isRefused isFree = reply-cases (λ reply. Q reply (kindOf code) (noteWords words i (kindOf code) v reply))
-      (λ refusal. refuses (kindOf code) refusal)
+      (λ refusal. subst (Q (Reply.refused refusal) (kindOf code)) (sym (refusal-unnoted words i (kindOf code) v refusal)) (isRefused refusal (kindOf code)))
       (λ s free room. subst (λ kind. Q (told s) kind (noteWords words i kind v (told s))) (sym (free .placed .heard .known)) (isFree s free room))
     where
       told : Step → Reply ℕ
       told s = reportedTo i code (answer S h i s)
-
-      refuses : (kind : Kind) (refusal : Refusal) → Q (Reply.refused refusal) kind (noteWords words i kind v (Reply.refused refusal))
-      refuses (known s) refusal = isRefused refusal (known s)
-      refuses unknown refusal = isRefused refusal unknown
 
   -- They say the history with the reply noted,
   pub reply-noted : (v : ℕ) → SameHistory S (noteReply h i (kindOf code) v (judgedReply words i code))

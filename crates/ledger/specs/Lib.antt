@@ -3,3 +3,4 @@ pub mod Entries
 pub mod Histories
 pub mod Noting
 pub mod Promises
+pub mod Given

@@ -7,6 +7,7 @@ use mathlib.Core.Logic.{_↔_}
 use mathlib.Core.Option.{Option, none, some, Option·some-ne-none}
 use lib.ListN.{length}
 use Rattle.rules.specs.Replies.{Refusal, Reply, Opening}
+use Rattle.rules.specs.Checks.{firstHit, openingChecks}
 use Rattle.rules.specs.Given.{Given, OpeningGiven}
 use Rattle.rules.proofs.Given.{opening-exactly}
 use Rattle.rules.proofs.Turns.{turn-given}
@@ -17,7 +18,7 @@ use Rattle.promises.specs.Stepping.{askedOf, turnOf, stepWords, StepProm
 -- ── Opening ───────────────────────────────────────────────────────────
 
 -- An opening is replied to with a refusal just when its checks say that refusal.
-opening-said : (o : Option Refusal) (refusal : Refusal) → (openingReply o ≡ Opening.refused refusal) ↔ (o ≡ some refusal)
+pub opening-said : (o : Option Refusal) (refusal : Refusal) → (openingReply o ≡ Opening.refused refusal) ↔ (o ≡ some refusal)
 unfolding openingReply
 opening-said none refusal = (
   λ e. absurd (let z : _≡_ {A = ℕ} 0 1 = cc in omega arith),
@@ -25,14 +26,19 @@ opening-said none refusal = (
 )
 opening-said (some other) refusal = (λ e. cc, λ e. cc)
 
+-- Of so many words, where so many are needed, a reply that the checks give is each refusal exactly then.
+pub opening-given : (m n long need : ℕ) {reply : Opening} → reply ≡ openingReply (firstHit (openingChecks m n long need))
+    → (refusal : Refusal) → (reply ≡ Opening.refused refusal) ↔ OpeningGiven refusal m n long need
+opening-given m n long need replied refusal =
+    let said = opening-said (firstHit (openingChecks m n long need)) refusal in
+    let given = opening-exactly m n long need refusal in
+    (λ e. given .0 (said .0 (sym replied ∙ e)), λ g. replied ∙ said .1 (given .1 g))
+
 -- An opening is refused with each number exactly then.
 pub opening-refused : {words : List ℕ} {m n : ℕ} {reply : Opening} {after : List ℕ} → OpeningPromise words m n reply after
     → (refusal : Refusal) → (reply ≡ Opening.refused refusal) ↔ OpeningGiven refusal m n (length words) (size m n)
 unfolding openingRefusal
-opening-refused {words} {m} {n} p refusal =
-    let said = opening-said (openingRefusal words m n) refusal in
-    let given = opening-exactly m n (length words) (size m n) refusal in
-    (λ e. given .0 (said .0 (sym (p .replied) ∙ e)), λ g. p .replied ∙ said .1 (given .1 g))
+opening-refused {words} {m} {n} p = opening-given m n (length words) (size m n) (p .replied)
 
 -- A refused opening changes no word.
 pub opening-unchanged : {words : List ℕ} {m n : ℕ} {reply : Opening} {after : List ℕ} → OpeningPromise words m n reply after

@@ -26,7 +26,7 @@ use Rattle.rules.proofs.Committing.{held}
 
 module _ {W : Type 0} (S : Setting W) (n : ℕ) (h : History W) (i code : ℕ) where
   -- A step that is given a number by the history is refused with it.
-  judged-refused : (refusal : Refusal) → Given refusal (askedByHistory S n h i code)
+  pub judged-refused : (refusal : Refusal) → Given refusal (askedByHistory S n h i code)
       → judgement S n h i code ≡ Reply.refused refusal
   unfolding judgement orAnswered
   judged-refused refusal given = rw (given-exactly (askedByHistory S n h i code) refusal .1 given)

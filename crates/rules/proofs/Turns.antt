@@ -3,7 +3,7 @@ use Prim.Native.Nat.{ℕ}
 use native.Mathlib.Omega.{arith}
 use mathlib.Core.Path.{_≡_, sym, ap, _∙_, subst}
 use mathlib.Core.Bool.{Bool}
-use mathlib.Core.Logic.{_↔_, inl, inr}
+use mathlib.Core.Logic.{_↔_, _⊎_, inl, inr, ⊎-map}
 use Rattle.rules.specs.Codes.{Step}
 use Rattle.rules.specs.Replies.{Refusal, Report, Reply, reported}
 use Rattle.rules.specs.Register.{Setting, Register}
@@ -23,6 +23,24 @@ takenTurn S r i code v s = record {
 -- What the turn of a step that is refused is.
 abbrev pub refusedTurn : {W : Type 0} → Register W → Refusal → Turn W
 refusedTurn r refusal = record { reply = Reply.refused refusal; after = r }
+
+-- A refusal is no other refusal,
+refusal-same : {W : Type 0} {a b : Refusal} → _≡_ {A = Reply W} (Reply.refused a) (Reply.refused b) → a ≡ b
+refusal-same e = cc
+
+-- and no report.
+report-no-refusal : {W : Type 0} (report : Report W) (refusal : Refusal) → reported report ≡ Reply.refused refusal → ⊥
+report-no-refusal report refusal e = let z : _≡_ {A = ℕ} 0 1 = cc in omega arith
+
+-- Where each G gives its own refusal, and one G holds or the reply is a report, each refusal is replied exactly when its G holds.
+pub refused-exactly : {W : Type 0} {reply : Reply W} (G : Refusal → Type 0) → ((refusal : Refusal) → G refusal → reply ≡ Reply.refused refusal)
+    → ((refusal : Refusal) × G refusal) ⊎ ((report : Report W) × (reply ≡ reported report))
+    → (refusal : Refusal) → (reply ≡ Reply.refused refusal) ↔ G refusal
+refused-exactly {reply = reply} G gives decided refusal = (replied decided, gives refusal)
+  where
+    replied : ((other : Refusal) × G other) ⊎ ((report : Report _) × (reply ≡ reported report)) → reply ≡ Reply.refused refusal → G refusal
+    replied (inl (other, g)) e = subst G (refusal-same (sym (gives other g) ∙ e)) g
+    replied (inr (report, q)) e = absurd (report-no-refusal report refusal (sym q ∙ e))
 
 module _ {W : Type 0} (S : Setting W) (n : ℕ) (wellFormed : Bool) (r : Register W) (i code : ℕ) (v : W) where
   -- What is asked.
@@ -45,17 +63,8 @@ module _ {W : Type 0} (S : Setting W) (n : ℕ) (wellFormed : Bool) (r : Registe
 
   -- A step is refused with each number exactly when it is given.
   pub turn-given : (refusal : Refusal) → (gets .reply ≡ Reply.refused refusal) ↔ Given refusal what
-  turn-given refusal = (λ e. decides e (verdict what), λ g. ap (λ t. t .reply) (given-turn refusal g))
-    where
-      same : {a b : Refusal} → _≡_ {A = Reply W} (Reply.refused a) (Reply.refused b) → a ≡ b
-      same e = cc
-
-      reports : {report : Report W} → _≡_ {A = Reply W} (reported report) (Reply.refused refusal) → ⊥
-      reports e = let z : _≡_ {A = ℕ} 0 1 = cc in omega arith
-
-      decides : gets .reply ≡ Reply.refused refusal → Verdict what → Given refusal what
-      decides e (inl (other, g)) = subst (λ f. Given f what) (same (sym (ap (λ t. t .reply) (given-turn other g)) ∙ e)) g
-      decides e (inr (s, f)) = absurd (reports (sym (ap (λ t. t .reply) (free-turn s f)) ∙ e))
+  turn-given = refused-exactly (λ refusal. Given refusal what) (λ refusal g. ap (λ t. t .reply) (given-turn refusal g))
+      (⊎-map (λ g. g) (λ f. (_, ap (λ t. t .reply) (free-turn (f .0) (f .1)))) (verdict what))
 
   -- A refused step changes nothing.
   pub refused-unchanged : (refusal : Refusal) → gets .reply ≡ Reply.refused refusal → gets .after ≡ r

@@ -1,0 +1,174 @@
+-- The judge gives each refusal exactly when its condition holds, and then no word is changed. It never answers abort 3, and with 64
+-- commits noted it still answers all that is no commit.
+use Prim.Native.Nat.{ℕ, _<_}
+use native.Mathlib.Omega.{arith}
+use mathlib.Core.Path.{_≡_, refl, sym, ap, _∙_}
+use mathlib.Core.Bool.{true, false, _&&_, true≢false}
+use mathlib.Core.List.{List}
+use mathlib.Core.Logic.{_↔_, _⊎_, inl, inr}
+use lib.Dec.{leb}
+use lib.ListN.{length}
+use borrow.Author.Tests.{leb-true}
+use Rattle.rules.specs.Codes.{kindOf}
+use Rattle.rules.specs.Replies.{overtaken, spent, Outcome, committed, aborted, Report, Reply, reported, Opening}
+use Rattle.rules.specs.Replies.{Refusal, notWellFormed, noHandler, noCell, alreadyOpen, notOpen, unknownStep}
+use Rattle.rules.specs.Replies.{outOfRange, tooShort, badFile, usedUp, tooManyCommits}
+use Rattle.rules.specs.Checks.{Asked}
+use Rattle.rules.specs.Given.{OpeningGiven}
+use Rattle.rules.specs.Demand.{reportedTo}
+use Rattle.rules.specs.Judge.{askedByHistory}
+use Rattle.rules.proofs.Tables.{by, and-left, and-right, both-ways}
+use Rattle.rules.proofs.Given.{Verdict, verdict}
+use Rattle.rules.proofs.Turns.{refused-exactly}
+use Rattle.rules.proofs.Judged.{judged-refused, judged-free}
+use Rattle.rules.proofs.Properties.{ok-no-abort}
+use Rattle.rules.proofs.ExactAborts.{outcomeIn}
+use Rattle.rules.proofs.NeverSpent.{never-spent}
+use Rattle.layout.specs.Places.{cellsOf, handlersOf}
+use Rattle.layout.specs.View.{wordSetting}
+use Rattle.promises.proofs.Exactly.{opening-said, opening-given}
+use Rattle.ledger.specs.Entries.{ledgerLong, mostCommits, commitsNoted, Ledger, isLedger}
+use Rattle.ledger.specs.Histories.{historyIn}
+use Rattle.ledger.specs.Noting.{noteWords}
+use Rattle.ledger.specs.Promises.{ledgerRefusal, ledgerWords, LedgerPromise, isCommit, limited, judgedReply, JudgePromise}
+use Rattle.ledger.specs.Given.{toldBy, RulesGive, JudgeGiven}
+use Rattle.ledger.proofs.Tested.{tested}
+use Rattle.ledger.proofs.Commits.{commits-count}
+use Rattle.ledger.proofs.Steps.{limited-other, refusal-unnoted, reply-limited, reply-cases}
+
+-- ── Opening ───────────────────────────────────────────────────────────
+
+module _ {words : List ℕ} {m n : ℕ} {reply : Opening} {after : List ℕ} (p : LedgerPromise words m n reply after) where
+  -- An opening is refused with each number exactly then.
+  pub ledger-refused : (refusal : Refusal) → (reply ≡ Opening.refused refusal) ↔ OpeningGiven refusal m n (length words) ledgerLong
+  unfolding ledgerRefusal
+  ledger-refused = opening-given m n (length words) ledgerLong (p .replied)
+
+  -- A refused opening changes no word.
+  pub ledger-unchanged : (refusal : Refusal) → reply ≡ Opening.refused refusal → after ≡ words
+  unfolding ledgerWords
+  ledger-unchanged refusal e = p .left ∙ rw (opening-said (ledgerRefusal words m n) refusal .0 (sym (p .replied) ∙ e))
+
+-- ── A step ────────────────────────────────────────────────────────────
+
+-- The one outcome of a commit is commit.
+commit-only : (outcome : Outcome ℕ) → isCommit outcome ≡ true → outcome ≡ committed
+commit-only Outcome.ok e = both-ways e refl
+commit-only (Outcome.value v) e = both-ways e refl
+commit-only committed e = refl
+commit-only (aborted reason) e = both-ways e refl
+
+module _ (words : List ℕ) (i code : ℕ) where
+  -- What is asked, as the history tells it.
+  abbrev asked : Asked
+  asked = askedByHistory (wordSetting (cellsOf words)) (handlersOf words) (historyIn words) i code
+
+  -- Each refusal is 10, or 33, or given as the rules give it.
+  refusal-cases : (Q : Refusal → Type 0 → Type 0) → Q notWellFormed (JudgeGiven notWellFormed words i code)
+      → Q tooManyCommits (JudgeGiven tooManyCommits words i code) → ((refusal : Refusal) → Q refusal (RulesGive refusal words i code))
+      → (refusal : Refusal) → Q refusal (JudgeGiven refusal words i code)
+  refusal-cases Q ten last others notWellFormed = ten
+  refusal-cases Q ten last others noHandler = others noHandler
+  refusal-cases Q ten last others noCell = others noCell
+  refusal-cases Q ten last others alreadyOpen = others alreadyOpen
+  refusal-cases Q ten last others notOpen = others notOpen
+  refusal-cases Q ten last others unknownStep = others unknownStep
+  refusal-cases Q ten last others outOfRange = others outOfRange
+  refusal-cases Q ten last others tooShort = others tooShort
+  refusal-cases Q ten last others badFile = others badFile
+  refusal-cases Q ten last others usedUp = others usedUp
+  refusal-cases Q ten last others tooManyCommits = last
+
+  -- A refusal that the rules give to what is asked of a ledger, the judge gives.
+  rules-give : (refusal : Refusal) → RulesGive refusal words i code → JudgeGiven refusal words i code
+  rules-give = refusal-cases (λ refusal Gives. RulesGive refusal words i code → Gives)
+      (λ g. absurd (true≢false (g .1))) (λ g. absurd (g .1)) (λ refusal g. g)
+
+  -- Words that are no ledger are refused with 10,
+  no-ledger : JudgeGiven notWellFormed words i code → judgedReply words i code ≡ Reply.refused notWellFormed
+  unfolding judgedReply
+  no-ledger wrong = rw (by (isLedger words) (λ e. absurd (wrong (tested words .0 e))) (λ e. e))
+
+  -- one commit more than 64 is refused with 33,
+  too-many : JudgeGiven tooManyCommits words i code → judgedReply words i code ≡ Reply.refused tooManyCommits
+  unfolding limited
+  too-many (ledger, noted, told) = reply-limited ledger i code ∙ rw (noted, told)
+
+  -- and what the rules give is refused with their number.
+  others-refuse : (refusal : Refusal) → RulesGive refusal words i code → judgedReply words i code ≡ Reply.refused refusal
+  others-refuse refusal (ledger, given) =
+      reply-limited ledger i code
+      ∙ ap (limited (commitsNoted words)) (judged-refused _ (handlersOf words) (historyIn words) i code refusal given)
+      ∙ limited-other (commitsNoted words) (Reply.refused refusal) refl
+
+  -- So a step that is given a number is refused with it.
+  given-refuses : (refusal : Refusal) → JudgeGiven refusal words i code → judgedReply words i code ≡ Reply.refused refusal
+  given-refuses = refusal-cases (λ refusal Gives. Gives → judgedReply words i code ≡ Reply.refused refusal) no-ledger too-many others-refuse
+
+  -- The judge gives one refusal, or it reports.
+  abbrev Decided : Type 0
+  Decided = ((refusal : Refusal) × JudgeGiven refusal words i code) ⊎ ((report : Report ℕ) × (judgedReply words i code ≡ reported report))
+
+  -- So it is where the history tells an outcome,
+  outcome-decides : Ledger words → (outcome : Outcome ℕ) → toldBy words i code ≡ reportedTo i code outcome → Decided
+  unfolding limited
+  outcome-decides ledger outcome told = by (leb mostCommits (commitsNoted words) && isCommit outcome)
+      (λ e. let full = leb-true mostCommits (commitsNoted words) (and-left _ (isCommit outcome) e) in
+      let commits = commit-only outcome (and-right (leb mostCommits (commitsNoted words)) (isCommit outcome) e) in
+      inl (tooManyCommits, (ledger, omega (arith, ledger .few, full), told ∙ ap (reportedTo i code) commits)))
+      (λ e. let reports : judgedReply words i code ≡ reportedTo i code outcome = reply-limited ledger i code ∙ rw (told, e) in inr (_, reports))
+
+  -- of each ledger,
+  ledger-decides : Ledger words → Verdict asked → Decided
+  ledger-decides ledger (inl (refusal, given)) = inl (refusal, rules-give refusal (ledger, given))
+  ledger-decides ledger (inr (s, free)) = outcome-decides ledger _ (judged-free _ (handlersOf words) (historyIn words) i code s free)
+
+  -- and of all words.
+  decided : Decided
+  decided = by (isLedger words)
+      (λ e. ledger-decides (tested words .0 e) (verdict asked))
+      (λ e. inl (notWellFormed, λ ledger. both-ways (tested words .1 ledger) e))
+
+module _ {words : List ℕ} {handler code value : ℕ} {reply : Reply ℕ} {after : List ℕ}
+    (p : JudgePromise words handler code value reply after) where
+  -- A step is refused with each number exactly then.
+  pub judge-refused : (refusal : Refusal) → (reply ≡ Reply.refused refusal) ↔ JudgeGiven refusal words handler code
+  judge-refused refusal =
+      let given = refused-exactly (λ other. JudgeGiven other words handler code) (given-refuses words handler code)
+      (decided words handler code) refusal in
+      (λ e. given .0 (sym (p .replied) ∙ e), λ g. p .replied ∙ given .1 g)
+
+  -- A refused step changes no word.
+  pub judge-unchanged : (refusal : Refusal) → reply ≡ Reply.refused refusal → after ≡ words
+  judge-unchanged refusal e =
+      p .left ∙ ap (noteWords words handler (kindOf code) value) (sym (p .replied) ∙ e)
+      ∙ refusal-unnoted words handler (kindOf code) value refusal
+
+-- ── Aborts ────────────────────────────────────────────────────────────
+
+-- A ledger notes too few commits for any number to be spent.
+short-history : (words : List ℕ) → Ledger words → length (historyIn words .commits) < 65535
+unfolding historyIn
+short-history words ledger = omega (arith, ledger .few, commits-count (cellsOf words) words (commitsNoted words))
+
+-- No reply of the judge is abort 3.
+pub never-three : (words : List ℕ) (i code : ℕ) → judgedReply words i code ≡ reportedTo i code (aborted spent) → ⊥
+never-three words i code e = by (isLedger words)
+    (λ t. let ledger = tested words .0 t in
+    reply-cases ledger i code (λ reply. outcomeIn reply ≡ aborted spent → ⊥) (λ refusal. ok-no-abort spent)
+    (λ s free room. never-spent (wordSetting (cellsOf words)) (historyIn words) i s (short-history words ledger)) (ap outcomeIn e))
+    (λ t. let refused = no-ledger words i code (λ ledger. both-ways (tested words .1 ledger) t) in
+    ok-no-abort spent (ap outcomeIn (sym refused ∙ e)))
+
+module _ {words : List ℕ} (ledger : Ledger words) (i code : ℕ) where
+  -- An outcome that is no commit is the judge's reply where the history tells it, however many commits are noted.
+  pub others-answered : (outcome : Outcome ℕ) → isCommit outcome ≡ false
+      → toldBy words i code ≡ reportedTo i code outcome → judgedReply words i code ≡ reportedTo i code outcome
+  others-answered outcome other told =
+      reply-limited ledger i code ∙ ap (limited (commitsNoted words)) told
+      ∙ limited-other (commitsNoted words) (reportedTo i code outcome) other
+
+  -- So a try that is overtaken is answered abort 2 also where 64 are.
+  pub too-many-only-then : toldBy words i code ≡ reportedTo i code (aborted overtaken)
+      → judgedReply words i code ≡ reportedTo i code (aborted overtaken)
+  too-many-only-then = others-answered (aborted overtaken) refl
