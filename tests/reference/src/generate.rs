@@ -2,8 +2,8 @@
 use crate::random::Random;
 use crate::schedule::{Step, LONGEST};
 
-const BEGIN: Step = Step { code: 0, value: 0 };
-const TRY: Step = Step { code: 1, value: 0 };
+pub(crate) const BEGIN: Step = Step { code: 0, value: 0 };
+pub(crate) const TRY: Step = Step { code: 1, value: 0 };
 
 /// A schedule in its parts, which a file is laid out from.
 #[derive(Clone, Debug)]
@@ -15,7 +15,7 @@ pub struct Parts {
 
 impl Parts {
     /// The parts of some scripts of steps and an order.
-    fn new(cells: u8, scripts: &[Vec<Step>], order: Vec<u8>) -> Self {
+    pub(crate) fn new(cells: u8, scripts: &[Vec<Step>], order: Vec<u8>) -> Self {
         Parts { cells, scripts: scripts.iter().map(|script| encoded(script)).collect(), order }
     }
 
@@ -76,7 +76,7 @@ fn encoded(steps: &[Step]) -> Vec<u8> {
     bytes
 }
 
-fn one_of<T: Copy>(random: &mut Random, choices: &[T]) -> T {
+pub(crate) fn one_of<T: Copy>(random: &mut Random, choices: &[T]) -> T {
     choices[random.below(choices.len() as u64) as usize]
 }
 
@@ -88,12 +88,17 @@ fn value(random: &mut Random) -> u32 {
     }
 }
 
-fn read(cell: u8) -> Step {
+pub(crate) fn read(cell: u8) -> Step {
     Step { code: 32 + cell, value: 0 }
 }
 
-fn write(random: &mut Random, cell: u8) -> Step {
-    Step { code: 64 + cell, value: value(random) }
+pub(crate) fn write(random: &mut Random, cell: u8) -> Step {
+    write_value(cell, value(random))
+}
+
+/// A write of a value that is known.
+pub(crate) fn write_value(cell: u8, value: u32) -> Step {
+    Step { code: 64 + cell, value }
 }
 
 /// A read or a write, one write among so many steps.

@@ -1,7 +1,14 @@
 //! The register of document 01 in plain Rust with no dependencies, written from the paper alone: its words and steps, the
-//! schedule file and its run, and random schedules. The proved programs are compared with it, word for word and line for line.
+//! schedule file and its run, and the judge, which works from the history. The proved programs are compared with them, word for
+//! word and line for line, on directed and on random schedules.
+pub mod counts;
+pub mod course;
+pub mod directed;
 pub mod generate;
 pub mod hexadecimal;
+pub mod histories;
+pub mod judge;
+pub mod program;
 pub mod random;
 pub mod register;
 pub mod schedule;

@@ -29,6 +29,13 @@ pub struct Line {
     pub reply: Reply,
 }
 
+/// What an order place asks for: the handler's next step, or the refusal 11 or 32 where there is none.
+#[derive(Clone, Copy, Debug, PartialEq, Eq)]
+pub struct Place {
+    pub handler: u8,
+    pub step: Result<Step, u32>,
+}
+
 /// A cell at the end of a run, with its own number.
 #[derive(Clone, Copy, Debug, PartialEq, Eq)]
 pub struct Cell {
@@ -36,12 +43,13 @@ pub struct Cell {
     pub number: u32,
 }
 
-/// All that a runner prints of a sound file.
+/// All that a runner prints of a sound file. A run that stopped at an order place leaves no cells to print.
 #[derive(Clone, Debug, PartialEq, Eq)]
 pub struct Run {
     pub handlers: u32,
+    pub cells: u32,
     pub lines: Vec<Line>,
-    pub cells: Vec<Cell>,
+    pub left: Vec<Cell>,
 }
 
 /// A 16-bit number, big-endian, where the file has both its bytes.
@@ -102,29 +110,43 @@ pub fn judge(file: &[u8]) -> Result<Schedule<'_>, u32> {
     Ok(Schedule { handlers: file[0].into(), cells: file[1].into(), scripts, order })
 }
 
+impl Schedule<'_> {
+    /// The order places one after another. A refused step is used up too, so what a step comes to doesn't matter here.
+    pub fn places(&self) -> Vec<Place> {
+        let mut left: Vec<_> = self.scripts.iter().map(|script| script.iter()).collect();
+        let mut next = |handler: u8| match left.get_mut(usize::from(handler)).map(Iterator::next) {
+            None => Err(11),
+            Some(None) => Err(32),
+            Some(Some(&step)) => Ok(step),
+        };
+        self.order.iter().map(|&handler| Place { handler, step: next(handler) }).collect()
+    }
+}
+
+impl Place {
+    /// The line of this place, where a step comes to what is said.
+    pub fn line(self, mut comes_to: impl FnMut(Step) -> Reply) -> Line {
+        let Place { handler, step } = self;
+        match step {
+            Ok(step) => Line { handler, code: Some(step.code), reply: comes_to(step) },
+            Err(number) => Line { handler, code: None, reply: Reply::Refused(number) },
+        }
+    }
+}
+
 /// Runs a file from a fresh register, or gives the number of its refusal.
 pub fn run(file: &[u8]) -> Result<Run, u32> {
     let schedule = judge(file)?;
     let (m, n) = (schedule.cells, schedule.handlers);
     let mut words = vec![0; register::length(m, n).ok_or(30u32)?];
     register::open(&mut words, m, n)?;
-    let mut left: Vec<_> = schedule.scripts.iter().map(|script| script.iter()).collect();
-    let mut lines = Vec::with_capacity(schedule.order.len());
-    for &handler in schedule.order {
-        let (code, reply) = match left.get_mut(usize::from(handler)).map(Iterator::next) {
-            None => (None, Reply::Refused(11)),
-            Some(None) => (None, Reply::Refused(32)),
-            Some(Some(step)) => {
-                let reply = register::step(&mut words, handler.into(), step.code.into(), step.value);
-                (Some(step.code), reply)
-            }
-        };
-        lines.push(Line { handler, code, reply });
-    }
-    let m = m as usize;
-    let cells = words[2..2 + m * (m + 1)].chunks(m + 1).enumerate();
-    let cells = cells.map(|(cell, words)| Cell { value: words[0], number: words[1 + cell] }).collect();
-    Ok(Run { handlers: n, lines, cells })
+    let mut line =
+        |place: Place| place.line(|step| register::step(&mut words, place.handler.into(), step.code.into(), step.value));
+    let lines = schedule.places().into_iter().map(&mut line).collect();
+    let long = m as usize + 1;
+    let cells = words[2..2 + m as usize * long].chunks(long).enumerate();
+    let left = cells.map(|(cell, words)| Cell { value: words[0], number: words[1 + cell] }).collect();
+    Ok(Run { handlers: n, cells: m, lines, left })
 }
 
 impl fmt::Display for Reply {
@@ -151,11 +173,11 @@ impl fmt::Display for Line {
 
 impl fmt::Display for Run {
     fn fmt(&self, out: &mut fmt::Formatter) -> fmt::Result {
-        writeln!(out, "handlers {} cells {}", self.handlers, self.cells.len())?;
+        writeln!(out, "handlers {} cells {}", self.handlers, self.cells)?;
         for (place, line) in self.lines.iter().enumerate() {
             writeln!(out, "{place} {line}")?;
         }
-        for (cell, Cell { value, number }) in self.cells.iter().enumerate() {
+        for (cell, Cell { value, number }) in self.left.iter().enumerate() {
             writeln!(out, "cell {cell} value {value} number {number}")?;
         }
         Ok(())
@@ -166,8 +188,13 @@ impl fmt::Display for Run {
 pub fn shown(run: &Result<Run, u32>) -> String {
     match run {
         Ok(run) => run.to_string(),
-        Err(number) => format!("refused {number}\n"),
+        Err(number) => refused(*number),
     }
+}
+
+/// The one line of a file refused with a number.
+pub fn refused(number: u32) -> String {
+    format!("refused {number}\n")
 }
 
 /// What a runner prints for a file, whatever it holds.

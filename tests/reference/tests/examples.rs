@@ -1,5 +1,5 @@
-//! The directed schedules of `examples/`: the bytes are those of the commented text, and the run prints what is expected.
-use reference::{hexadecimal, schedule};
+//! The directed schedules of `examples/`: the bytes are those of the commented text, and runner and judge print what is expected.
+use reference::{hexadecimal, judge, schedule};
 use std::collections::BTreeSet;
 use std::ffi::OsStr;
 use std::fs;
@@ -43,5 +43,16 @@ fn the_bytes_are_those_of_the_text() {
 fn the_run_prints_what_is_expected() {
     for name in names("bin") {
         assert_eq!(schedule::printed(&bytes(&name)), text(&name, "out"), "{name}");
+    }
+}
+
+#[test]
+fn the_judge_has_a_file_of_its_own_exactly_where_it_stops() {
+    let judged = names("judged");
+    assert!(judged.len() > 1 && judged.is_subset(&names("hex")));
+    for name in names("bin") {
+        let expected = text(&name, if judged.contains(&name) { "judged" } else { "out" });
+        assert_eq!(judge::printed(&bytes(&name)), expected, "{name}");
+        assert_eq!(judged.contains(&name), expected.ends_with(" refused 33\n"), "{name}");
     }
 }
