@@ -5,10 +5,10 @@ use mathlib.Core.Path.{_≡_, refl, sym, ap, _∙_, fun-ext}
 use mathlib.Core.Bool.{Bool, true, false}
 use mathlib.Core.Logic.{_↔_}
 use native.Mathlib.Omega.{arith}
-use native.Mathlib.Nat.{pow-succ', div-one, div-eq-of-lt}
+use native.Mathlib.Nat.{pow-succ', div-one, div-eq-of-lt, one-mul}
 use native.Mathlib.Numerals.{one-add}
 use lib.Dec.{eqb, eqb·suc-suc, eqb·zero-suc, eqb·suc-zero}
-use lib.Pow.{shr-shr, pow-mono}
+use lib.Pow.{shr-shr, pow-mono, shl-exact}
 use borrow.Author.Tests.{eq-eqb, ne-eqb, eqb-true, eqb-false}
 use Rattle.rules.specs.Tables.{if_then_else_, put}
 use Rattle.rules.specs.Register.{noCells}
@@ -184,3 +184,12 @@ with-there word x e = rw e
 pub with-joined : (word x : ℕ) → hasBit word x ≡ false → withBit word x ≡ word + 2 ^ x
 unfolding withBit
 with-joined word x e = rw e
+
+-- In a word of so many bits, a cell that is not in the set joins it by its bit, shifted,
+pub with-shifted : (wide word x : ℕ) → x < wide → hasBit word x ≡ false → word + (1 * 2 ^ x) % 2 ^ wide ≡ withBit word x
+with-shifted wide word x h absent =
+    ap (λ bit. word + bit) (shl-exact 1 x wide (omega arith) (omega arith) ∙ one-mul (2 ^ x)) ∙ sym (with-joined word x absent)
+
+-- and the sum fits such a word.
+pub shifted-fits : (wide word x : ℕ) → x < wide → hasBit word x ≡ false → word < 2 ^ wide → word + (1 * 2 ^ x) % 2 ^ wide < 2 ^ wide
+shifted-fits wide word x h absent small = omega (arith, with-shifted wide word x h absent, with-small wide word x small h)

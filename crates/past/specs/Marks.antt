@@ -1,22 +1,34 @@
--- Marks: a set of commits in one word of 64 bits, bit k for the commit at place k + 1; and what asking for a past does to them.
-use Prim.Native.Nat.{ℕ, zero, suc, _≤_}
+-- Marks: a set of commits in one word of 64 bits, bit k for the commit at place k + 1; and the pasts that are asked for, as the
+-- rules define them of the commits that the judge's words say.
+use Prim.Native.Nat.{ℕ, zero, suc}
 use mathlib.Core.Path.{_≡_}
 use mathlib.Core.Bool.{Bool, true, false, _||_}
 use mathlib.Core.List.{List}
-use lib.ListN.{length}
 use lib.Dec.{eqb, leb}
 use Rattle.rules.specs.Tables.{if_then_else_}
-use Rattle.rules.specs.Past.{inPast}
+use Rattle.rules.specs.Past.{inPast, upTo}
 use Rattle.layout.specs.Bits.{hasBit}
-use Rattle.ledger.specs.Entries.{ledgerLong, Entry, entryIn, commitRow}
+use Rattle.ledger.specs.Entries.{Entry}
 use Rattle.ledger.specs.Histories.{deedsOf, commitsIn}
 
--- The words are long enough for the judge, and of each row the first m cells count.
-pub record Rows (m : ℕ) (words : List ℕ) : Type 0 where
-  pub long : ledgerLong ≤ length words
-  pub cells : m ≤ 32
+-- ── Pasts ─────────────────────────────────────────────────────────────
 
--- The commit at a place is marked; the opening, place 0, never is.
+-- The past of an entry's transaction, of a handler, after the first so many commits.
+abbrev pub pastOfTransaction : ℕ → List ℕ → ℕ → ℕ → Entry → ℕ → Bool
+pastOfTransaction m words count handler e = inPast (commitsIn m words count) handler (deedsOf e m)
+
+-- The past of a version: the commit at a place, which wrote it, with that one's past. The opening, place 0, has none.
+abbrev pub pastOfVersion : ℕ → List ℕ → ℕ → ℕ → Bool
+pastOfVersion m words place = upTo (commitsIn m words place) place
+
+-- The place that a source word names, among the first so many commits; 0 if it names none of them.
+unfoldable pub sourcePlace : ℕ → ℕ → ℕ
+sourcePlace zero count = 0
+sourcePlace (suc place) count = if leb place count then place else 0
+
+-- ── Marks ─────────────────────────────────────────────────────────────
+
+-- The commit at a place is marked; the opening never is.
 unfoldable pub marked : ℕ → ℕ → Bool
 marked marks zero = false
 marked marks (suc k) = hasBit marks k
@@ -29,17 +41,6 @@ only place j = eqb j place
 pub record Adds (included : ℕ → Bool) (marks after : ℕ) : Type 0 where
   pub each : (j : ℕ) → marked after j ≡ marked marks j || included j
 
--- The place that a source word names, among the first so many commits; 0 if it names none of them.
-unfoldable pub sourcePlace : ℕ → ℕ → ℕ
-sourcePlace zero count = 0
-sourcePlace (suc place) count = if leb place count then place else 0
-
--- The past of an entry's transaction, of a handler, after the first so many commits.
-abbrev pub pastOf : ℕ → List ℕ → ℕ → ℕ → Entry → ℕ → Bool
-pastOf m words count handler e = inPast (commitsIn m words count) handler (deedsOf e m)
-
--- The past of a marked commit is marked.
-pub record Closed (m : ℕ) (words : List ℕ) (marks : ℕ) : Type 0 where
-  pub holds : (k j : ℕ) → marked marks (suc k) ≡ true
-      → pastOf m words k (entryIn words (commitRow (suc k)) .head) (entryIn words (commitRow (suc k))) j ≡ true
-      → marked marks j ≡ true
+-- A set of commits that has with each commit its past.
+pub record Closed (m : ℕ) (words : List ℕ) (included : ℕ → Bool) : Type 0 where
+  pub holds : (place j : ℕ) → included place ≡ true → pastOfVersion m words place j ≡ true → included j ≡ true

@@ -1,16 +1,16 @@
 // A transaction's causal past over the judge's words, as marks of the commits in it. A commit already marked is not asked again.
 // Internal: called by our crates alone, which show what each function requires.
 ghost use mathlib.Core.Path.{_≡_};
-ghost use Prim.Native.Nat.{_+_, _≤_, _<_};
-ghost use Rattle.rules.specs.Past.{upTo};
+ghost use Prim.Native.Nat.{ℕ, _≤_, _<_};
+ghost use lib.ListN.{length};
 ghost use Rattle.rules.proofs.Pasts.{lastOf};
-ghost use Rattle.ledger.specs.Entries.{entryIn, commitRow};
+ghost use Rattle.ledger.specs.Entries.{ledgerLong, mostCommits, entryIn};
 ghost use Rattle.ledger.specs.Histories.{commitsIn};
-ghost use Rattle.past.specs.Marks.{Rows, marked, only, Adds, Closed, pastOf, sourcePlace};
+ghost use Rattle.past.specs.Marks.{pastOfTransaction, pastOfVersion, sourcePlace, marked, only, Adds, Closed};
 
 // Whether the commit at a place is marked.
-fn is_marked(marks: u64, place: usize) -> bool
-    requires { ⌜ (1 ≤ place) × (place ≤ 64) ⌝ }
+pub fn is_marked(marks: u64, place: usize) -> bool
+    requires { ⌜ (1 ≤ place) × (place ≤ mostCommits) ⌝ }
     ensures { λ r. ⌜ r ≡ marked marks place ⌝ }
 {
     (marks >> (place - 1)) % 2 == 1
@@ -18,10 +18,11 @@ fn is_marked(marks: u64, place: usize) -> bool
 
 // The marks, with the commit at a place.
 fn mark(marks: u64, place: usize) -> u64
-    requires { ⌜ (1 ≤ place) × (place ≤ 64) ⌝ }
+    requires { ⌜ (1 ≤ place) × (place ≤ mostCommits) ⌝ }
     ensures { λ r. ⌜ Adds (only place) marks r ⌝ }
 {
-    if is_marked(marks, place) {
+    let there = is_marked(marks, place);
+    if there {
         marks
     } else {
         marks + (1u64 << (place - 1))
@@ -29,23 +30,23 @@ fn mark(marks: u64, place: usize) -> u64
 }
 
 // The place of the handler's last commit among the first so many; 0 if it has none.
-fn last_own(words: &[u32], m: usize, handler: u32, count: usize) -> usize
-    requires { ⌜ Rows m (now words) × (count ≤ 64) ⌝ }
-    ensures { λ r. ⌜ r ≡ lastOf (commitsIn m (now (words .entry)) count) handler ⌝ }
+fn last_own(words: &[u32], handler: u32, count: usize) -> usize
+    requires { ⌜ (ledgerLong ≤ length (now words)) × (count ≤ mostCommits) ⌝ }
+    ensures { λ r. ⌜ ((m : ℕ) → r ≡ lastOf (commitsIn m (now (words .entry)) count) handler) ⌝ }
 {
-    let mut place = count;
-    while 0 < place {
+    let mut last = 0;
+    for earlier in 0..count {
+        let place = earlier + 1;
         if words[(16 + place) * 66] == handler {
-            return place;
+            last = place;
         }
-        place -= 1;
     }
-    0
+    last
 }
 
 // The place of the commit, among the first so many, that a row's transaction read the cell c from; 0 if there is none.
 fn source_of(words: &[u32], row: usize, c: usize, count: usize) -> usize
-    requires { ⌜ Rows (c + 1) (now words) × (row < 81) ⌝ }
+    requires { ⌜ (ledgerLong ≤ length (now words)) × (row < 81) × (c < 32) ⌝ }
     ensures { λ r. ⌜ r ≡ sourcePlace (entryIn (now (words .entry)) row .sources c) count ⌝ }
 {
     let source = words[row * 66 + (2 + c)] as usize;
@@ -67,11 +68,11 @@ pub fn past_of_transaction(
     count: usize,
     marks: u64,
 ) -> u64
-    requires { ⌜ Rows m (now words) × (row < 81) × (count ≤ 64) ⌝ }
-    requires { ⌜ Closed m (now words) marks ⌝ }
-    ensures { λ r. ⌜ Adds (pastOf m (now (words .entry)) count handler (entryIn (now (words .entry)) row)) marks r ⌝ }
+    requires { ⌜ (ledgerLong ≤ length (now words)) × (m ≤ 32) × (row < 81) × (count ≤ mostCommits) ⌝ }
+    requires { ⌜ Closed m (now words) (marked marks) ⌝ }
+    ensures { λ r. ⌜ Adds (pastOfTransaction m (now (words .entry)) count handler (entryIn (now (words .entry)) row)) marks r ⌝ }
 {
-    let mut seen = past_of_version(words, m, last_own(words, m, handler, count), marks);
+    let mut seen = past_of_version(words, m, last_own(words, handler, count), marks);
     for c in 0..m {
         seen = past_of_version(words, m, source_of(words, row, c, count), seen);
     }
@@ -80,9 +81,9 @@ pub fn past_of_transaction(
 
 // A version's past is asked of the commit that wrote it; the opening's version has none.
 pub fn past_of_version(words: &[u32], m: usize, place: usize, marks: u64) -> u64
-    requires { ⌜ Rows m (now words) × (place ≤ 64) ⌝ }
-    requires { ⌜ Closed m (now words) marks ⌝ }
-    ensures { λ r. ⌜ Adds (upTo (commitsIn m (now (words .entry)) place) place) marks r ⌝ }
+    requires { ⌜ (ledgerLong ≤ length (now words)) × (m ≤ 32) × (place ≤ mostCommits) ⌝ }
+    requires { ⌜ Closed m (now words) (marked marks) ⌝ }
+    ensures { λ r. ⌜ Adds (pastOfVersion m (now (words .entry)) place) marks r ⌝ }
 {
     if place == 0 {
         return marks;
@@ -91,8 +92,7 @@ pub fn past_of_version(words: &[u32], m: usize, place: usize, marks: u64) -> u64
         return marks;
     }
     let row = 16 + place;
-    mark(
-        past_of_transaction(words, m, words[row * 66], row, place - 1, marks),
-        place,
-    )
+    let handler = words[row * 66];
+    let seen = past_of_transaction(words, m, handler, row, place - 1, marks);
+    mark(seen, place)
 }
