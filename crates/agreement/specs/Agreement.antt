@@ -4,18 +4,20 @@ use Prim.Native.Nat.{ℕ, _-_, _<_}
 use mathlib.Core.Path.{_≡_}
 use mathlib.Core.Bool.{Bool, true, false, _||_}
 use mathlib.Core.List.{List, [], _∷_}
-use mathlib.Core.Option.{Option, none, some}
+use mathlib.Core.Option.{some}
 use lib.ListN.{length}
 use lib.Dec.{eqb}
 use Rattle.rules.specs.Tables.{if_then_else_, isFound}
-use Rattle.rules.specs.Replies.{Refusal, tooManyCommits, refusalNumber, Reply, reported, ready}
+use Rattle.rules.specs.Replies.{tooManyCommits, refusalNumber, Reply, reported, ready}
 use Rattle.ledger.specs.Entries.{mostCommits}
 use Rattle.ledger.specs.Promises.{reportsCommit, LedgerPromise}
 use Rattle.schedule.specs.Sound.{orderIn}
 use Rattle.schedule.specs.Taking.{atStart}
 use Rattle.schedule.specs.Runs.{Line, Run, ran, runOf}
 use Rattle.schedule.specs.Lines.{placesFrom, WordRun}
+use Rattle.schedule.specs.Shown.{cellLine}
 use Rattle.judging.specs.Player.{theJudge}
+use Rattle.judge.specs.Ending.{judgedEnd}
 
 -- ── The runner's lines, cut ───────────────────────────────────────────
 
@@ -50,3 +52,22 @@ untilStop (line ∷ lines) = if stops line then (line ∷ []) else (line ∷ unt
 unfoldable pub everStops : List Line → Bool
 everStops [] = false
 everStops (line ∷ lines) = stops line || everStops lines
+
+-- ── The agreement ─────────────────────────────────────────────────────
+
+-- What the judge makes of a file on words of its own: its places one after another.
+abbrev pub judgedFrom : List ℕ → List ℕ → WordRun
+judgedFrom file words = placesFrom theJudge file (length (orderIn file)) atStart 0 words
+
+-- A judged run and the runner's run of m cells:
+pub record Agree (m : ℕ) (judged : WordRun) (run : Run) : Type 0 where
+  -- the judge's lines, up to the one at which it stops, are the runner's, cut at a 65th commit;
+  pub lines : untilStop (judged .lines) ≡ cutAfter mostCommits (run .lines)
+  -- where it stops at none, it shows each cell as the runner does
+  pub cells : everStops (judged .lines) ≡ false → (c : ℕ) → c < m
+      → judgedEnd (judged .words) c ≡ some (cellLine c (run .register .cells c))
+
+-- THE JUDGE AGREES with the runner, on every file that is run, and on all words that are opened for the judge.
+abbrev pub JudgeAgrees : Type 0
+JudgeAgrees = (file : List ℕ) (n m : ℕ) (run : Run) (before words : List ℕ) → runOf file ≡ ran n m run
+    → LedgerPromise before m n ready words → Agree m (judgedFrom file words) run

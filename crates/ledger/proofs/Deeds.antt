@@ -1,11 +1,12 @@
 -- What an entry's deeds are, cell by cell: which reads pass a test, what was written, the copies, and what is left on a table.
-use Prim.Native.Nat.{ℕ, zero, suc, _≤_, _<_}
+use Prim.Native.Nat.{ℕ, zero, suc, _-_, _<_}
 use native.Mathlib.Omega.{arith}
+use native.Mathlib.Numerals.{sub-one}
 use mathlib.Core.Path.{_≡_, refl, sym, ap, _∙_, fun-ext}
 use mathlib.Core.Bool.{Bool, true, false, _&&_, _||_, and-true}
 use mathlib.Core.List.{List}
 use lib.Dec.{eqb, ltb}
-use borrow.Author.Tests.{ltb-true, ltb-false, lt-ltb, le-ltb, eqb-true, eqb-false, eq-eqb, ne-eqb}
+use borrow.Author.Tests.{ltb-true, lt-ltb, le-ltb, eqb-true, eqb-false, eq-eqb, ne-eqb}
 use Rattle.rules.specs.Tables.{if_then_else_, put, lowest, someBelow}
 use Rattle.rules.specs.Register.{Setting}
 use Rattle.rules.specs.History.{Deed, someLook, hasRead, hasWritten}
@@ -14,7 +15,6 @@ use Rattle.rules.specs.Judge.{copied}
 use Rattle.rules.proofs.Tables.{by, same-test}
 use Rattle.rules.proofs.Searches.{some-only, some-next}
 use Rattle.layout.specs.Rows.{below}
-use Rattle.layout.specs.View.{wordSetting}
 use Rattle.ledger.specs.Entries.{Entry}
 use Rattle.ledger.specs.Histories.{lookOf, setOf, deedsOf}
 
@@ -111,6 +111,16 @@ unfolding lookPasses hasSource
 passes-all y zero = refl
 passes-all y (suc source) = refl
 
+-- Where something is noted, the test is of one below it,
+passes-noted : (test : ℕ → ℕ → Bool) (y noted : ℕ) → (noted ≡ 0 → ⊥) → lookPasses test y noted ≡ test y (noted - 1)
+unfolding lookPasses
+passes-noted test y zero some = absurd (some refl)
+passes-noted test y (suc source) some = rw sub-one
+
+-- and there is a source.
+source-noted : (noted : ℕ) → (noted ≡ 0 → ⊥) → hasSource noted ≡ true
+source-noted noted some = sym (passes-all 0 noted) ∙ passes-noted (λ x k. true) 0 noted some
+
 -- ── All cells ─────────────────────────────────────────────────────────
 
 module _ (e : Entry) where
@@ -150,6 +160,17 @@ module _ (e : Entry) where
       looks-at (λ z source. eqb y z && test z source) m
       ∙ some-only m _ y inside (λ z apart. passes-other test y z (e .sources z) apart) ∙ passes-here test y (e .sources y)
 
+  -- Where none is noted no read passes,
+  pub look-none : (test : ℕ → ℕ → Bool) (m y : ℕ) {noted : ℕ} → y < m → noted ≡ e .sources y → noted ≡ 0
+      → someLook (λ z source. eqb y z && test z source) (deedsOf e m) ≡ false
+  unfolding lookPasses
+  look-none test m y inside told none = look-at test m y inside ∙ rw (← told, none)
+
+  -- and where one is, the test is of the source one below.
+  pub look-noted : (test : ℕ → ℕ → Bool) (m y : ℕ) {noted : ℕ} → y < m → noted ≡ e .sources y → (noted ≡ 0 → ⊥)
+      → someLook (λ z source. eqb y z && test z source) (deedsOf e m) ≡ test y (noted - 1)
+  look-noted test m y inside told some = look-at test m y inside ∙ rw (← told) (passes-noted test y _ some)
+
   -- A cell below m was read from the cells just where its source is noted.
   pub reads-at : (m x : ℕ) → x < m → hasRead (deedsOf e m) x ≡ hasSource (e .sources x)
   unfolding hasRead
@@ -160,3 +181,14 @@ module _ (e : Entry) where
   -- A cell below m was written just where that is noted.
   pub written-at : (m x : ℕ) → x < m → hasWritten (deedsOf e m) x ≡ e .written x
   written-at m x inside = writes-at m x ∙ rw (lt-ltb x m inside) (by (e .written x) (λ t. rw t) (λ t. rw t))
+
+  -- A cell of which no source is noted has been read or written just where a write is noted,
+  pub copy-none : (m x : ℕ) {noted : ℕ} → x < m → noted ≡ e .sources x → noted ≡ 0
+      → hasRead (deedsOf e m) x || hasWritten (deedsOf e m) x ≡ e .written x
+  unfolding hasSource
+  copy-none m x inside told none = rw (reads-at m x inside, ← told, none) (written-at m x inside)
+
+  -- and one with a source has been.
+  pub copy-noted : (m x : ℕ) {noted : ℕ} → x < m → noted ≡ e .sources x → (noted ≡ 0 → ⊥)
+      → hasRead (deedsOf e m) x || hasWritten (deedsOf e m) x ≡ true
+  copy-noted m x inside told some = rw (reads-at m x inside, ← told, source-noted _ some)

@@ -30,7 +30,7 @@ use Rattle.promises.proofs.Exactly.{opening-said, opening-given}
 use Rattle.ledger.specs.Entries.{ledgerLong, mostCommits, commitsNoted, Ledger, isLedger}
 use Rattle.ledger.specs.Histories.{historyIn}
 use Rattle.ledger.specs.Noting.{noteWords}
-use Rattle.ledger.specs.Promises.{ledgerRefusal, ledgerWords, LedgerPromise, isCommit, limited, judgedReply, JudgePromise}
+use Rattle.ledger.specs.Promises.{ledgerRefusal, ledgerWords, LedgerPromise, isCommit, limited, judgedReply, JudgedPromise}
 use Rattle.ledger.specs.Given.{toldBy, RulesGive, JudgeGiven}
 use Rattle.ledger.proofs.Tested.{tested}
 use Rattle.ledger.proofs.Commits.{commits-count}
@@ -130,7 +130,7 @@ module _ (words : List ℕ) (i code : ℕ) where
       (λ e. inl (notWellFormed, λ ledger. both-ways (tested words .1 ledger) e))
 
 module _ {words : List ℕ} {handler code value : ℕ} {reply : Reply ℕ} {after : List ℕ}
-    (p : JudgePromise words handler code value reply after) where
+    (p : JudgedPromise words handler code value reply after) where
   -- A step is refused with each number exactly then.
   pub judge-refused : (refusal : Refusal) → (reply ≡ Reply.refused refusal) ↔ JudgeGiven refusal words handler code
   judge-refused refusal =

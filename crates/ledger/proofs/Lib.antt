@@ -5,6 +5,7 @@ pub mod Entries
 pub mod Tested
 pub mod Histories
 pub mod Commits
+pub mod Versions
 pub mod Notes
 pub mod Outcomes
 pub mod Steps

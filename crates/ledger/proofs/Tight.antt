@@ -3,7 +3,7 @@ use Prim.Native.Nat.{ℕ}
 use mathlib.Core.Path.{_≡_, sym, _∙_}
 use mathlib.Core.List.{List}
 use Rattle.rules.specs.Replies.{Reply, Opening}
-use Rattle.ledger.specs.Promises.{LedgerPromise, JudgePromise}
+use Rattle.ledger.specs.Promises.{LedgerPromise, JudgedPromise}
 
 module _ {words : List ℕ} where
   -- Opening has one outcome.
@@ -13,5 +13,5 @@ module _ {words : List ℕ} where
 
   -- A step has one outcome.
   pub judge-determined : {handler code value : ℕ} {a b : Reply ℕ} {after other : List ℕ}
-      → JudgePromise words handler code value a after → JudgePromise words handler code value b other → (a ≡ b) × (after ≡ other)
+      → JudgedPromise words handler code value a after → JudgedPromise words handler code value b other → (a ≡ b) × (after ≡ other)
   judge-determined p q = (p .replied ∙ sym (q .replied), p .left ∙ sym (q .left))

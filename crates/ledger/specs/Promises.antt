@@ -66,6 +66,6 @@ judgedReply words i code =
     if isLedger words then (limited (commitsNoted words) told) else (Reply.refused notWellFormed)
 
 -- The promise of a step.
-pub record JudgePromise (words : List ℕ) (handler code value : ℕ) (reply : Reply ℕ) (after : List ℕ) : Type 0 where
+pub record JudgedPromise (words : List ℕ) (handler code value : ℕ) (reply : Reply ℕ) (after : List ℕ) : Type 0 where
   pub replied : reply ≡ judgedReply words handler code
   pub left : after ≡ noteWords words handler (kindOf code) value (judgedReply words handler code)

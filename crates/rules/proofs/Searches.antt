@@ -1,11 +1,12 @@
 -- Laws of what is looked for below a number of places: what a loop that looks for the first place that passes a test answers, and
 -- when two searches answer the same.
-use Prim.Native.Nat.{ℕ, suc, _≤_, _<_}
+use Prim.Native.Nat.{ℕ, suc, _+_, _≤_, _<_}
 use native.Mathlib.Omega.{arith}
 use mathlib.Core.Path.{_≡_, refl, sym, ap, _∙_}
 use mathlib.Core.Bool.{Bool, true, false, _||_, or-true}
 use mathlib.Core.Option.{Option, none, some}
 use lib.Dec.{eqb}
+use borrow.Author.Count.{below-more}
 use borrow.Author.Tests.{eqb-true, eqb-false}
 use Rattle.rules.specs.Tables.{orElse, lowest, isFound, someBelow}
 use Rattle.rules.proofs.Tables.{by, both-ways, either, same-test, some-true, some-from, some-none}
@@ -13,6 +14,10 @@ use Rattle.rules.proofs.Tables.{by, both-ways, either, same-test, some-
 -- No place below y passes the test.
 abbrev pub NoneBelow : (ℕ → Bool) → ℕ → Type 0
 NoneBelow test y = (z : ℕ) → z < y → test z ≡ false
+
+-- The search goes on past a place that fails.
+pub search-goes : {test : ℕ → Bool} {y : ℕ} {found : Bool} → NoneBelow test y → found ≡ test y → found ≡ false → NoneBelow test (y + 1)
+search-goes before tested fails = below-more _ _ before (sym tested ∙ fails)
 
 module _ (m : ℕ) (test : ℕ → Bool) {answer : Bool} (asked : answer ≡ someBelow m test) where
   -- The search ends at a place that passes.

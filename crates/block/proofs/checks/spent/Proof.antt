@@ -1,10 +1,8 @@
 -- `block::checks::spent` meets its contract: no cell passed has a full number.
 use Prim.Native.Nat.{ℕ, _-_, _≤_}
-use mathlib.Core.Path.{sym, _∙_}
 use mathlib.Core.List.{List}
 use native.Mathlib.Omega.{arith}
-use borrow.Author.Count.{below-more}
-use Rattle.rules.proofs.Searches.{NoneBelow, search-hits, search-misses}
+use Rattle.rules.proofs.Searches.{NoneBelow, search-goes, search-hits, search-misses}
 use Rattle.block.proofs.Searches.{filled, spent-asks}
 use Rattle.block.proofs.checks.spent.Statement.{statement}
 use Rattle.block.proofs.checks.spent.Tie as tie
@@ -41,6 +39,6 @@ spent-spec =
     (λ c. omega arith)
     (λ c. omega arith)
     (λ c. let none = c .before .before .before .before .loop .inv .1 in
-    (omega arith, below-more _ _ none (sym (c .before .full .ensures) ∙ c .if1 .left)))
+    (omega arith, search-goes none (c .before .full .ensures) (c .if1 .left)))
     -- at the end
     (λ c. search-misses _ _ (spent-asks _ _ (row (c .before))) (c .before .loop .inv .1) (omega arith)))

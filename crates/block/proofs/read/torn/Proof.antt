@@ -1,10 +1,8 @@
 -- `block::read::torn` meets its contract: no cell passed has a lower number.
 use Prim.Native.Nat.{ℕ, _-_, _≤_}
-use mathlib.Core.Path.{sym, _∙_}
 use mathlib.Core.List.{List}
 use native.Mathlib.Omega.{arith}
-use borrow.Author.Count.{below-more}
-use Rattle.rules.proofs.Searches.{NoneBelow, search-hits, search-misses}
+use Rattle.rules.proofs.Searches.{NoneBelow, search-goes, search-hits, search-misses}
 use Rattle.block.proofs.Searches.{lower, torn-asks}
 use Rattle.block.proofs.read.torn.Statement.{statement}
 use Rattle.block.proofs.read.torn.Tie as tie
@@ -45,6 +43,6 @@ torn-spec =
     (λ c. omega arith)
     (λ c. omega arith)
     (λ c. let none = c .before .before .before .before .before .loop .inv .1 in
-    (omega arith, below-more _ _ none (sym (c .before .below .ensures) ∙ c .if1 .left)))
+    (omega arith, search-goes none (c .before .below .ensures) (c .if1 .left)))
     -- at the end
     (λ c. search-misses _ _ (torn-asks _ _ (row (c .before))) (c .before .loop .inv .1) (omega arith)))

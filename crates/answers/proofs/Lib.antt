@@ -1,1 +1,0 @@
--- The laws of what is asked of the judge's words.

@@ -1,0 +1,37 @@
+-- `answers::is_stale` meets its contract: no cell passed was read in another version than the present one.
+use Prim.Native.Nat.{_-_, _≤_}
+use native.Mathlib.Omega.{arith}
+use mathlib.Core.Path.{refl}
+use Rattle.rules.specs.Judge.{stale}
+use Rattle.rules.proofs.Searches.{NoneBelow, search-goes, search-hits, search-misses}
+use Rattle.ledger.specs.Entries.{entryIn}
+use Rattle.ledger.specs.Histories.{deedsOf, commitsIn}
+use Rattle.answers.proofs.is_stale.Statement.{statement}
+use Rattle.answers.proofs.is_stale.Tie as tie
+
+abbrev Inv-loop : tie.InvT-loop
+Inv-loop words m row count y₀ y =
+    (y ≤ m) × NoneBelow (stale (commitsIn m words count) (deedsOf (entryIn words row) m)) y
+
+abbrev μ-loop : tie.MeasureT-loop
+μ-loop words m row count y₀ y = m - y
+
+pub is-stale-spec : {M : Type 1} → statement M
+is-stale-spec =
+    tie.close
+    (tie.spec
+    Inv-loop
+    μ-loop
+    -- before the first turn
+    (λ c. (omega arith, λ z h. absurd (omega arith)))
+    -- the test
+    (λ c κs. omega arith)
+    -- it passes
+    (λ c. search-hits _ _ refl _ (omega arith) (c .before .is-overtaken .ensures _ (omega arith)) (c .if1 .taken))
+    -- one more turn
+    (λ c. omega arith)
+    (λ c. omega arith)
+    (λ c. let none = c .before .before .before .loop .inv .1 in
+    (omega arith, search-goes none (c .before .is-overtaken .ensures _ (omega arith)) (c .if1 .left)))
+    -- at the end
+    (λ c. search-misses _ _ refl (c .before .loop .inv .1) (omega arith)))

@@ -1,2 +1,0 @@
--- What is asked of the judge's words.
-pub mod Asking

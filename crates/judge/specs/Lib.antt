@@ -1,0 +1,2 @@
+-- What the judge promises besides the ledger's promises.
+pub mod Ending
