@@ -2,3 +2,4 @@
 pub mod Entries
 pub mod Histories
 pub mod Noting
+pub mod Promises

@@ -26,7 +26,7 @@ use Rattle.schedule.specs.Sound.{handlersIn, cellsIn, scriptIn}
 use Rattle.schedule.specs.Scripts.{ScriptStep, valueLong, firstStep, stepsBehind, stepsOf}
 use Rattle.schedule.specs.Taking.{Cursors, cursorOf, taken, leftOf, isSpoilt, leftChecks, placeChecks, answered, namedNext, cursorsAfter}
 use Rattle.schedule.specs.Runs.{Standing, stepLine, stepped, ordered}
-use Rattle.schedule.specs.Lines.{lineFor, wordsFor}
+use Rattle.schedule.specs.Lines.{theRegister, lineFor, wordsFor}
 use Rattle.playing.proofs.Scripts.{InFront, in-front}
 
 -- The words hold the register of a run of the file.
@@ -80,8 +80,8 @@ module _ {file words : List ℕ} {register : Register ℕ} (held : Holding file 
 
 -- What a place comes to in both: the same line, and both stand on alike.
 pub record OnePlace (file : List ℕ) (cursors : Cursors) (words : List ℕ) (s : Standing) (place handler : ℕ) : Type 0 where
-  pub shown : lineFor words place (namedNext file cursors handler) ≡ some (ordered (cellsIn file) (handlersIn file) s place handler .line)
-  pub along : Along file (cursorsAfter cursors (namedNext file cursors handler)) (wordsFor words (namedNext file cursors handler))
+  pub shown : lineFor theRegister words place (namedNext file cursors handler) ≡ some (ordered (cellsIn file) (handlersIn file) s place handler .line)
+  pub along : Along file (cursorsAfter cursors (namedNext file cursors handler)) (wordsFor theRegister words (namedNext file cursors handler))
       (ordered (cellsIn file) (handlersIn file) s place handler .after)
 
 module _ {file : List ℕ} {cursors : Cursors} {words : List ℕ} {s : Standing} (along : Along file cursors words s) (place handler : ℕ) where

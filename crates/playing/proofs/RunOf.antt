@@ -21,20 +21,20 @@ use Rattle.schedule.proofs.Sounds.{file-tested}
 use Rattle.schedule.proofs.Judges.{good-exactly}
 use Rattle.schedule.specs.Taking.{Cursors, cursorOf, atStart, Next, nextOf, namedNext, cursorsAfter}
 use Rattle.schedule.specs.Runs.{ordered, Standing, Run, stepsFound, runFrom, started, Played, ran, playedBy, runOf}
-use Rattle.schedule.specs.Lines.{lineFor, wordsFor, placesFrom, inFront}
+use Rattle.schedule.specs.Lines.{theRegister, lineFor, wordsFor, placesFrom, inFront}
 use Rattle.playing.proofs.Places.{Along, one-place}
 
 -- What is shown of so many places, and the register that the words say at the end.
 abbrev pub shownFrom : List ℕ → ℕ → Cursors → ℕ → List ℕ → Run
 shownFrom file count cursors place words =
-    let run = placesFrom file count cursors place words in
+    let run = placesFrom theRegister file count cursors place words in
     record { lines = run .lines; register = view (cellsIn file) (handlersIn file) (run .words) }
 
 -- What is shown of one place more, by what comes next there.
 abbrev shownBy : List ℕ → ℕ → Cursors → ℕ → List ℕ → Next → Run
 shownBy file count cursors place words next =
-    let later = shownFrom file count (cursorsAfter cursors next) (place + 1) (wordsFor words next) in
-    record { lines = inFront (lineFor words place next) (later .lines); register = later .register }
+    let later = shownFrom file count (cursorsAfter cursors next) (place + 1) (wordsFor theRegister words next) in
+    record { lines = inFront (lineFor theRegister words place next) (later .lines); register = later .register }
 
 module _ (file : List ℕ) (sound : isSoundFile file ≡ true) where
   -- An order byte at its place, and the order behind it.

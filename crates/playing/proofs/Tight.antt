@@ -11,7 +11,7 @@ use Rattle.replies.specs.declared.Refusal.the-variants.{NotWellFormed}
 use Rattle.replies.proofs.Apart.{answerBack, answer-same}
 use Rattle.schedule.specs.Taking.{Cursors}
 use Rattle.schedule.specs.Runs.{Line}
-use Rattle.schedule.specs.Lines.{PlacePromise}
+use Rattle.schedule.specs.Lines.{theRegister, PlacePromise}
 use Rattle.playing.specs.Ending.{CellLine, EndPromise}
 use Rattle.playing.specs.declared.End.{End}
 use Rattle.playing.specs.declared.End.the-variants.{Cell, Missing}
@@ -41,7 +41,7 @@ shown-same place (Asked handler code answer) = ap (Asked handler code) (answer-s
 
 -- A place shows one thing, and leaves one row of cursors and one list of words.
 pub place-determined : {file words : List ℕ} {cursors : Cursors} {place : ℕ} {a b : Shown} {used other : Cursors} {left leftToo : List ℕ}
-    → PlacePromise file cursors place words (lineIs place a) used left → PlacePromise file cursors place words (lineIs place b) other leftToo
+    → PlacePromise theRegister file cursors place words (lineIs place a) used left → PlacePromise theRegister file cursors place words (lineIs place b) other leftToo
     → (a ≡ b) × (used ≡ other) × (left ≡ leftToo)
 place-determined {place = place} p q = (
   read-back (lineIs place) shownBack (shown-same place) _ _ (p .shown ∙ sym (q .shown)),

@@ -1,6 +1,6 @@
 // The run of a schedule file, one order place after another, and what is shown of a cell at the end.
 // PUBLIC: nothing here has a `requires`. Each promise fixes the reply and every word of the register, for all inputs.
-ghost use Rattle.schedule.specs.Lines.{PlacePromise};
+ghost use Rattle.schedule.specs.Lines.{theRegister, PlacePromise};
 ghost use Rattle.playing.specs.Ending.{EndPromise};
 ghost use Rattle.playing.specs.Shown.{lineIs, endIs};
 use replies::Answer;
@@ -36,7 +36,7 @@ pub enum End {
 
 // Takes one order place of a file: the step that it names is asked of the register.
 pub fn play_place(file: &[u8], cursors: Cursors, place: usize, words: &mut [u32]) -> Placed
-    ensures { λ r. ⌜ PlacePromise (now (file .entry)) (cursors .at) place (now (words .entry))
+    ensures { λ r. ⌜ PlacePromise theRegister (now (file .entry)) (cursors .at) place (now (words .entry))
         (lineIs place (r .shown)) (r .cursors .at) (now (words .exit)) ⌝ }
 {
     let step = schedule::next_step(file, cursors, place);

@@ -8,19 +8,20 @@ use Rattle.rules.specs.Register.{blank}
 use Rattle.rules.specs.History.{History}
 use Rattle.rules.specs.Demand.{Ask, Consistent}
 use Rattle.rules.specs.Judge.{Told}
-use Rattle.rules.proofs.ThirdDemand.{third-demand, history-tells}
+use Rattle.rules.proofs.ThirdDemand.{CellTold, cells-told, third-demand, history-tells}
 use Rattle.layout.specs.Places.{cellStart, cellLong}
 use Rattle.layout.specs.View.{wordSetting, viewCell, view}
 use Rattle.layout.proofs.Rows.{part-at, below-inside, below-is}
 use Rattle.layout.proofs.ViewPour.{view-cell, view-confined}
 use Rattle.promises.specs.Inherits.{cellValues, numberWord, WordsConsistent, WordsInherit}
+use Rattle.promises.specs.Runs.{WordRun}
 use Rattle.promises.proofs.Runs.{FollowsRules, rules-reply, run-follows}
 
 -- ── What the words of the cells say ───────────────────────────────────
 
 module _ (m n : ℕ) (words : List ℕ) where
   -- A cell's first word is its value.
-  value-said : (x : ℕ) → x < m → getD words (cellStart m x) 0 ≡ view m n words .cells x .value
+  pub value-said : (x : ℕ) → x < m → getD words (cellStart m x) 0 ≡ view m n words .cells x .value
   unfolding viewCell
   value-said x inside =
       ap (λ place. getD words place 0) (let first : cellStart m x ≡ cellStart m x + 0 = omega arith in first)
@@ -33,7 +34,7 @@ module _ (m n : ℕ) (words : List ℕ) where
   values-said = below-is m 0 _ _ value-said (λ x beyond. ap (λ cell. cell .value) (view-confined m n words .cells x beyond))
 
   -- A number that is read off the words is that of the register that the words say.
-  number-said : (x y : ℕ) → x < m → y < m → numberWord m words x y ≡ view m n words .cells x .numbers y
+  pub number-said : (x y : ℕ) → x < m → y < m → numberWord m words x y ≡ view m n words .cells x .numbers y
   unfolding viewCell
   number-said x y inside below =
       sym (part-at (cellStart m x) (cellLong m) words (1 + y) (omega arith))
@@ -64,3 +65,11 @@ module _ {m n : ℕ} {asks : List (Ask ℕ)} {words : List ℕ} {h : History ℕ
 -- The third demand of words holds.
 pub words-inherit : WordsInherit
 words-inherit m n asks words h ran = follows-consistent (run-follows ran)
+
+-- After every run of words the history tells of each cell, as the words say it: its value is what all commits leave there, and its
+-- own number is how many of them wrote it.
+pub words-told : {m n : ℕ} {asks : List (Ask ℕ)} {words : List ℕ} {h : History ℕ} → WordRun m n asks words h
+    → (x : ℕ) → CellTold (wordSetting m) (view m n words) h x
+words-told {m} {n} {asks} ran x =
+    let follows = run-follows ran in
+    rw (follows .says, follows .history) (cells-told (wordSetting m) n asks x)

@@ -96,10 +96,18 @@ module _ {words : List ℕ} {handler code value : ℕ} {reply : Reply ℕ} {afte
 -- ── Opening ───────────────────────────────────────────────────────────
 
 -- An opening that is replied to with ready passes its checks.
-opening-passes : (o : Option Refusal) → openingReply o ≡ ready → o ≡ none
+pub opening-passes : (o : Option Refusal) → openingReply o ≡ ready → o ≡ none
 unfolding openingReply
 opening-passes none e = refl
 opening-passes (some refusal) e = absurd (let z : _≡_ {A = ℕ} 0 1 = cc in omega arith)
+
+-- Where the checks of an opening say nothing, m and n are in range, and there are as many words as are needed.
+pub checks-passed : (m n long need : ℕ) → firstHit (openingChecks m n long need) ≡ none → (inRange m n ≡ true) × (need ≤ long)
+unfolding openingChecks
+checks-passed m n long need passes = (not-false (inRange m n) (each .0), ltb-false long need (each .1 .0))
+  where
+    each : (not (inRange m n) ≡ false) × ((ltb long need ≡ false) × (_≡_ {A = Option Refusal} (firstHit []) none))
+    each = simp none-holds at passes
 
 -- An opening that is ready: m and n are in range, and a fresh register stands in front of the words.
 pub record Ready (words : List ℕ) (m n : ℕ) (after : List ℕ) : Type 0 where
@@ -127,17 +135,10 @@ fresh-ready words m n ranged fits =
 
 -- What an opening that is ready leaves.
 pub opening-ready : {words : List ℕ} {m n : ℕ} {after : List ℕ} → OpeningPromise words m n ready after → Ready words m n after
-unfolding openingWords openingRefusal openingChecks
-opening-ready {words} {m} {n} {after} p = subst (Ready words m n) (sym (p .left ∙ rw passes)) (fresh-ready words m n ranged fits)
+unfolding openingWords openingRefusal
+opening-ready {words} {m} {n} {after} p =
+    let passed = checks-passed m n (length words) (size m n) passes in
+    subst (Ready words m n) (sym (p .left ∙ rw passes)) (fresh-ready words m n (passed .0) (passed .1))
   where
     passes : openingRefusal words m n ≡ none
     passes = opening-passes (openingRefusal words m n) (sym (p .replied))
-
-    each : (not (inRange m n) ≡ false) × ((ltb (length words) (size m n) ≡ false) × (_≡_ {A = Option Refusal} (firstHit []) none))
-    each = simp none-holds at passes
-
-    ranged : inRange m n ≡ true
-    ranged = not-false (inRange m n) (each .0)
-
-    fits : size m n ≤ length words
-    fits = ltb-false (length words) (size m n) (each .1 .0)

@@ -1,5 +1,4 @@
 -- Laws of the register.
-pub mod Codes
 pub mod Refusing
 pub mod Opening
 pub mod Taking

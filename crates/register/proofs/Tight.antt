@@ -1,9 +1,8 @@
 -- Any two outcomes that a promise of the register allows are equal: the very answer, and every word.
 use Prim.Native.Nat.{ℕ}
-use mathlib.Core.Path.{_≡_, refl, sym, _∙_}
+use mathlib.Core.Path.{_≡_, refl}
 use mathlib.Core.List.{List}
 use mathlib.Core.Option.{Option, none, some}
-use Rattle.rules.specs.Codes as Codes
 use Rattle.rules.proofs.Numbers.{Injective, read-back}
 use Rattle.promises.specs.Lengths.{LengthPromise}
 use Rattle.promises.specs.Opening.{OpeningPromise}
@@ -15,9 +14,7 @@ use Rattle.replies.specs.Meaning.{replyOf, openingOf}
 use Rattle.replies.proofs.Apart.{answers-apart, openings-apart}
 use Rattle.register.specs.declared.Needed.{Needed}
 use Rattle.register.specs.declared.Needed.the-variants.{Words, Nothing}
-use Rattle.register.specs.declared.Kind.{Kind}
-use Rattle.register.specs.declared.Kind.the-variants.{Begin, Try, Read, Write, Unknown}
-use Rattle.register.specs.Kinds.{kindIs, neededIs}
+use Rattle.register.specs.Meaning.{neededIs}
 
 neededBack : Option ℕ → Needed
 neededBack (some k) = Words k
@@ -35,30 +32,6 @@ lengths-apart = read-back neededIs neededBack needed-same
 -- The question for a length has one answer.
 pub needed-determined : {m n : ℕ} {a b : Needed} → LengthPromise m n (neededIs a) → LengthPromise m n (neededIs b) → a ≡ b
 needed-determined p q = lengths-apart _ _ (length-determined p q)
-
--- The kind of the rules' kind.
-kindBack : Codes.Kind → Kind
-kindBack (Codes.known Codes.begin) = Begin
-kindBack (Codes.known Codes.try) = Try
-kindBack (Codes.known (Codes.read x)) = Read x
-kindBack (Codes.known (Codes.write x)) = Write x
-kindBack Codes.unknown = Unknown
-
-kind-same : (kind : Kind) → kindBack (kindIs kind) ≡ kind
-unfolding kindBack
-kind-same Begin = refl
-kind-same Try = refl
-kind-same (Read x) = refl
-kind-same (Write x) = refl
-kind-same Unknown = refl
-
--- Different kinds differ in the rules.
-pub kinds-apart : Injective kindIs
-kinds-apart = read-back kindIs kindBack kind-same
-
--- A code has one kind.
-pub kind-determined : (code : ℕ) {a b : Kind} → kindIs a ≡ Codes.kindOf code → kindIs b ≡ Codes.kindOf code → a ≡ b
-kind-determined code p q = kinds-apart _ _ (p ∙ sym q)
 
 module _ {words : List ℕ} where
   -- Opening has one answer, and leaves one list of words.

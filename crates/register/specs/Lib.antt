@@ -1,2 +1,2 @@
--- What the enums of this crate mean in the rules.
-pub mod Kinds
+-- What the enum of this crate means, and what is asked of words.
+pub mod Meaning

@@ -3,47 +3,23 @@
 mod refusal;
 mod take;
 
-ghost use mathlib.Core.Path.{_≡_};
-ghost use Rattle.rules.specs.Codes.{kindOf};
 ghost use Rattle.promises.specs.Opening.{OpeningPromise};
 ghost use Rattle.promises.specs.Stepping.{StepPromise};
 ghost use Rattle.promises.specs.Lengths.{LengthPromise};
 ghost use Rattle.replies.specs.Meaning.{replyOf, openingOf};
-ghost use Rattle.register.specs.Kinds.{kindIs, neededIs};
-use crate::refusal::Verdict;
+ghost use Rattle.register.specs.Meaning.{neededIs};
 use crate::refusal::refusal_of;
 use crate::take::take;
 use replies::Answer;
 use replies::Opened;
 use replies::Refusal;
 use replies::Report;
-
-// What a step code stands for.
-pub enum Kind {
-    Begin,
-    Try,
-    Read(usize),
-    Write(usize),
-    Unknown,
-}
+use steps::Verdict;
 
 // How many words a register needs, if m and n are in range.
 pub enum Needed {
     Words(usize),
     Nothing,
-}
-
-// The kind of a step code.
-pub fn kind_of(code: u32) -> Kind
-    ensures { λ r. ⌜ kindIs r ≡ kindOf code ⌝ }
-{
-    match code {
-        0 => Kind::Begin,
-        1 => Kind::Try,
-        32..=63 => Kind::Read((code - 32) as usize),
-        64..=95 => Kind::Write((code - 64) as usize),
-        _ => Kind::Unknown,
-    }
 }
 
 // The words that a register of m cells and n handlers needs.
@@ -81,7 +57,7 @@ pub fn open(words: &mut [u32], m: u32, n: u32) -> Opened
 pub fn step(words: &mut [u32], handler: u32, code: u32, value: u32) -> Answer
     ensures { λ r. ⌜ StepPromise (now (words .entry)) handler code value (replyOf r) (now (words .exit)) ⌝ }
 {
-    let kind = kind_of(code);
+    let kind = steps::kind_of(code);
     let verdict = refusal_of(words, handler, kind);
     match verdict {
         Verdict::Refuses(refusal) => Answer::Refused(refusal),

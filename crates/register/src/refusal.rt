@@ -1,82 +1,35 @@
-// The one place where a step is refused, for all kinds of step: 10, 15, 11, 12, then 13 or 14.
+// Whether a step is refused: 10 where the words are no register, and else what the checks of any step say.
 ghost use mathlib.Core.Path.{_≡_};
-ghost use Rattle.rules.specs.Checks.{firstHit, stepChecks, isUnknown, isBeyond, isBegin};
-ghost use Rattle.register.specs.Kinds.{kindIs, verdictIs, askedBy};
-use crate::Kind;
+ghost use Rattle.rules.specs.Checks.{firstHit, stepChecks};
+ghost use Rattle.layout.specs.WellFormed.{WellFormed};
+ghost use Rattle.turns.specs.Takes.{viewed};
+ghost use Rattle.steps.specs.Meaning.{kindIs, verdictIs};
+ghost use Rattle.register.specs.Meaning.{askedBy};
 use replies::Refusal;
+use steps::Kind;
+use steps::Verdict;
 
-// What the checks of a step say.
-pub enum Verdict {
-    Passes,
-    Refuses(Refusal),
-}
-
-// The code stands for no step.
-fn is_unknown(kind: Kind) -> bool
-    ensures { λ r. ⌜ r ≡ isUnknown (kindIs kind) ⌝ }
+// Whether a handler's transaction is open; of handler n or above there is none.
+fn has_open(words: &[u32], handler: u32) -> bool
+    requires { ⌜ WellFormed (now words) ⌝ }
+    ensures { λ r. ⌜ r ≡ viewed (now (words .entry)) .handlers handler .opened ⌝ }
 {
-    match kind {
-        Kind::Unknown => true,
-        Kind::Begin => false,
-        Kind::Try => false,
-        Kind::Read(_) => false,
-        Kind::Write(_) => false,
+    if words[1] <= handler {
+        return false;
     }
+    let m = words[0] as usize;
+    let i = handler as usize;
+    turns::is_open(words, m, i)
 }
 
-// A read or a write of cell m or above.
-fn is_beyond(kind: Kind, m: usize) -> bool
-    ensures { λ r. ⌜ r ≡ isBeyond m (kindIs kind) ⌝ }
-{
-    match kind {
-        Kind::Read(x) => m <= x,
-        Kind::Write(x) => m <= x,
-        Kind::Begin => false,
-        Kind::Try => false,
-        Kind::Unknown => false,
-    }
-}
-
-// A begin.
-fn is_begin(kind: Kind) -> bool
-    ensures { λ r. ⌜ r ≡ isBegin (kindIs kind) ⌝ }
-{
-    match kind {
-        Kind::Begin => true,
-        Kind::Try => false,
-        Kind::Read(_) => false,
-        Kind::Write(_) => false,
-        Kind::Unknown => false,
-    }
-}
-
-// What the checks say of a step of a handler, in their order.
+// What the checks say of a step of a handler.
 pub fn refusal_of(words: &[u32], handler: u32, kind: Kind) -> Verdict
     ensures { λ r. ⌜ verdictIs r ≡ firstHit (stepChecks (askedBy (now (words .entry)) handler (kindIs kind))) ⌝ }
 {
     if !formed::well_formed(words) {
         return Verdict::Refuses(Refusal::NotWellFormed);
     }
-    if is_unknown(kind) {
-        return Verdict::Refuses(Refusal::UnknownStep);
-    }
-    if words[1] <= handler {
-        return Verdict::Refuses(Refusal::NoHandler);
-    }
     let m = words[0] as usize;
-    if is_beyond(kind, m) {
-        return Verdict::Refuses(Refusal::NoCell);
-    }
-    let i = handler as usize;
-    let open = turns::is_open(words, m, i);
-    if is_begin(kind) {
-        if open {
-            return Verdict::Refuses(Refusal::AlreadyOpen);
-        }
-        return Verdict::Passes;
-    }
-    if open {
-        return Verdict::Passes;
-    }
-    Verdict::Refuses(Refusal::NotOpen)
+    let opened = has_open(words, handler);
+    steps::verdict_of(m, words[1], handler, kind, opened)
 }

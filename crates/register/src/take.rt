@@ -3,9 +3,9 @@ ghost use mathlib.Core.Path.{_≡_};
 ghost use Rattle.rules.specs.Codes.{Step, known};
 ghost use Rattle.replies.specs.Meaning.{outcomeOf};
 ghost use Rattle.turns.specs.Takes.{Ready, Takes};
-ghost use Rattle.register.specs.Kinds.{kindIs};
-use crate::Kind;
+ghost use Rattle.steps.specs.Meaning.{kindIs};
 use replies::Outcome;
+use steps::Kind;
 
 // Takes the step. A code that stands for no step is never asked for here.
 pub fn take(words: &mut [u32], m: usize, i: usize, kind: Kind, value: u32) -> Outcome

@@ -9,7 +9,7 @@ use Rattle.replies.specs.declared.Outcome.{Outcome}
 use Rattle.replies.specs.declared.Outcome.the-variants.{Done, Value, Committed, Aborted}
 use Rattle.replies.specs.declared.Refusal.{Refusal}
 use Rattle.replies.specs.declared.Refusal.the-variants.{NotWellFormed, NoHandler, NoCell, AlreadyOpen, NotOpen, UnknownStep}
-use Rattle.replies.specs.declared.Refusal.the-variants.{OutOfRange, TooShort, BadFile, UsedUp}
+use Rattle.replies.specs.declared.Refusal.the-variants.{OutOfRange, TooShort, BadFile, UsedUp, TooManyCommits}
 use Rattle.replies.specs.declared.Answer.{Answer}
 use Rattle.replies.specs.declared.Answer.the-variants.{Reported, Refused}
 use Rattle.replies.specs.declared.Opened.{Opened}
@@ -40,6 +40,7 @@ refusalBack Rules.outOfRange = OutOfRange
 refusalBack Rules.tooShort = TooShort
 refusalBack Rules.badFile = BadFile
 refusalBack Rules.usedUp = UsedUp
+refusalBack Rules.tooManyCommits = TooManyCommits
 
 pub answerBack : Rules.Reply ℕ → Answer
 answerBack (Rules.reported report) = Reported (record { handler = report .handler; code = report .code; outcome = outcomeBack (report .outcome) })
@@ -76,6 +77,7 @@ refusal-same OutOfRange = refl
 refusal-same TooShort = refl
 refusal-same BadFile = refl
 refusal-same UsedUp = refl
+refusal-same TooManyCommits = refl
 
 pub answer-same : (answer : Answer) → answerBack (replyOf answer) ≡ answer
 unfolding answerBack

@@ -8,7 +8,7 @@ use Rattle.replies.specs.declared.Outcome.{Outcome}
 use Rattle.replies.specs.declared.Outcome.the-variants.{Done, Value, Committed, Aborted}
 use Rattle.replies.specs.declared.Refusal.{Refusal}
 use Rattle.replies.specs.declared.Refusal.the-variants.{NotWellFormed, NoHandler, NoCell, AlreadyOpen, NotOpen, UnknownStep}
-use Rattle.replies.specs.declared.Refusal.the-variants.{OutOfRange, TooShort, BadFile, UsedUp}
+use Rattle.replies.specs.declared.Refusal.the-variants.{OutOfRange, TooShort, BadFile, UsedUp, TooManyCommits}
 use Rattle.replies.specs.declared.Answer.{Answer}
 use Rattle.replies.specs.declared.Answer.the-variants.{Reported, Refused}
 use Rattle.replies.specs.declared.Opened.{Opened}
@@ -39,6 +39,7 @@ refusalOf OutOfRange = Rules.outOfRange
 refusalOf TooShort = Rules.tooShort
 refusalOf BadFile = Rules.badFile
 refusalOf UsedUp = Rules.usedUp
+refusalOf TooManyCommits = Rules.tooManyCommits
 
 -- The rules' reply to a step.
 abbrev pub replyOf : Answer → Rules.Reply ℕ

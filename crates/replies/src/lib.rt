@@ -25,7 +25,7 @@ pub struct Report {
     pub outcome: Outcome,
 }
 
-// Why a step, an opening, a schedule file or an order place is refused.
+// Why a step, an opening, a schedule file or an order place is refused, and why the judge stops.
 pub enum Refusal {
     NotWellFormed,
     NoHandler,
@@ -37,6 +37,7 @@ pub enum Refusal {
     TooShort,
     BadFile,
     UsedUp,
+    TooManyCommits,
 }
 
 // The answer to a step.
@@ -77,5 +78,6 @@ pub fn refusal_number(refusal: Refusal) -> u32
         Refusal::TooShort => 21,
         Refusal::BadFile => 30,
         Refusal::UsedUp => 32,
+        Refusal::TooManyCommits => 33,
     }
 }

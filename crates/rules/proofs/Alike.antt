@@ -7,7 +7,7 @@ use mathlib.Core.List.{List, [], _∷_}
 use mathlib.Core.Option.{Option}
 use lib.ListN.{length}
 use lib.Dec.{eqb}
-use Rattle.rules.specs.Tables.{if_then_else_, someBelow}
+use Rattle.rules.specs.Tables.{if_then_else_}
 use Rattle.rules.specs.Codes.{Step, begin, try, read, write, Kind, known, unknown, kindOf}
 use Rattle.rules.specs.Replies.{Refusal}
 use Rattle.rules.specs.Register.{Setting}
@@ -153,13 +153,18 @@ module _ {W : Type 0} {S : Setting W} where
 
   -- ── Pasts ───────────────────────────────────────────────────────────
 
-  -- The causal past of a transaction is the same set of commits,
+  -- The causal past of a transaction holds the commit j in both or in neither,
+  inPast-at : {a b : List (Commit W)} {now other : List (Deed W)} → SameCommits S a b → (i : ℕ) → SameDeeds S now other
+      → (j : ℕ) → inPast a i now j ≡ inPast b i other j
+  unfolding inPast
+  inPast-at none i s j = refl
+  inPast-at (more {d = d} handler deeds rest) i s j =
+      simp (length-same rest, handler, hasReadFrom-same s, inPast-at rest (d .handler) deeds j, inPast-at rest i s j)
+
+  -- so it is the same set of commits,
   pub inPast-same : {a b : List (Commit W)} {now other : List (Deed W)} → SameCommits S a b → (i : ℕ) → SameDeeds S now other
       → inPast a i now ≡ inPast b i other
-  unfolding inPast
-  inPast-same none i s = fun-ext (λ j. refl)
-  inPast-same (more {d = d} {b = b} handler deeds rest) i s = fun-ext (λ j.
-      rw (length-same rest, handler, hasReadFrom-same s (placeAfter b), inPast-same rest (d .handler) deeds, inPast-same rest i s))
+  inPast-same commits i s = fun-ext (inPast-at commits i s)
 
   -- and so is a commit with its causal past.
   pub upTo-same : {a b : List (Commit W)} → SameCommits S a b → (k : ℕ) → upTo a k ≡ upTo b k
@@ -186,7 +191,10 @@ module _ {W : Type 0} {S : Setting W} where
     -- and the same commits tear.
     pub tears-same : (m k : ℕ) → tears m a now k ≡ tears m b other k
     unfolding tears
-    tears-same m k = rw (upTo-same commits k) (ap (someBelow m) (fun-ext (outdated-same (upTo b k))))
+    tears-same m k = simp (upTo-same commits k, cells)
+      where
+        cells : (included : ℕ → Bool) → outdated a included now ≡ outdated b included other
+        cells included = fun-ext (outdated-same included)
 
     -- Of the same cells the version read is not the present one,
     pub stale-same : (y : ℕ) → stale a now y ≡ stale b other y

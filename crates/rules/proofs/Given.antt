@@ -9,7 +9,7 @@ use lib.Dec.{leb, ltb}
 use borrow.Author.Tests.{leb-true, leb-false, le-leb, lt-leb, ltb-true, lt-ltb}
 use Rattle.rules.specs.Codes.{Step, begin, try, read, write, Kind, known, unknown}
 use Rattle.rules.specs.Replies.{Refusal, notWellFormed, noHandler, noCell, alreadyOpen, notOpen, unknownStep, outOfRange}
-use Rattle.rules.specs.Replies.{tooShort, badFile, usedUp}
+use Rattle.rules.specs.Replies.{tooShort, badFile, usedUp, tooManyCommits}
 use Rattle.rules.specs.Checks.{Check, _when_, firstHit, Asked, isBeyond, isBegin, stepChecks, inRange, openingChecks}
 use Rattle.rules.specs.Given.{Within, Beyond, Late, Heard, Placed, Given, phaseFor, Free, InRange, OpeningGiven}
 use Rattle.rules.proofs.Tables.{and-iff, leb-iff, by, both-ways}
@@ -108,6 +108,7 @@ module _ (a : Asked) where
   given-says tooShort g = absurd g
   given-says badFile g = absurd g
   given-says usedUp g = absurd g
+  given-says tooManyCommits g = absurd g
 
   -- A step that is free passes every check.
   free-passes : (s : Step) → Free a s → says ≡ none
@@ -206,6 +207,7 @@ opening-exactly m n long need = exactly (λ f. OpeningGiven f m n long need) hit
     hits tooShort (r, l) = rw (range-tested m n .1 r, lt-ltb long need l)
     hits badFile g = absurd g
     hits usedUp g = absurd g
+    hits tooManyCommits g = absurd g
 
     decided : ((f : Refusal) × OpeningGiven f m n long need) ⊎ (firstHit (openingChecks m n long need) ≡ none)
     decided = by (inRange m n)

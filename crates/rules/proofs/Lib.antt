@@ -20,6 +20,7 @@ pub mod Replays
 pub mod Computed
 pub mod Alike
 pub mod AlikeNotes
+pub mod NeverSpent
 pub mod Invariant
 pub mod Reading
 pub mod Committing

@@ -7,7 +7,8 @@ use lib.Dec.{eqb}
 use Rattle.rules.specs.Tables.{if_then_else_}
 use Rattle.rules.specs.Replies.{Reason, torn, overtaken, spent, Outcome, ok, value, committed, aborted, Refusal}
 use Rattle.rules.specs.Replies.{notWellFormed, noHandler, noCell, alreadyOpen, notOpen, unknownStep, outOfRange}
-use Rattle.rules.specs.Replies.{tooShort, badFile, usedUp, reasonNumber, refusalNumber, Numbers, outcomeNumbers, refusalNumbers}
+use Rattle.rules.specs.Replies.{tooShort, badFile, usedUp, tooManyCommits, reasonNumber, refusalNumber}
+use Rattle.rules.specs.Replies.{Numbers, outcomeNumbers, refusalNumbers}
 
 -- Different things have different images.
 abbrev pub Injective : {A B : Type 0} → (A → B) → Type 0
@@ -28,7 +29,8 @@ refusalOf n =
     else (if eqb n 12 then noCell else (if eqb n 13 then alreadyOpen
     else (if eqb n 14 then notOpen else (if eqb n 15 then unknownStep
     else (if eqb n 20 then outOfRange else (if eqb n 21 then tooShort
-    else (if eqb n 30 then badFile else usedUp))))))))
+    else (if eqb n 30 then badFile else (if eqb n 32 then usedUp
+    else tooManyCommits)))))))))
 
 -- The outcome of an answer in numbers.
 outcomeOf : Numbers → Outcome ℕ
@@ -56,6 +58,7 @@ refusal-back outOfRange = refl
 refusal-back tooShort = refl
 refusal-back badFile = refl
 refusal-back usedUp = refl
+refusal-back tooManyCommits = refl
 
 -- An outcome comes back from its numbers.
 outcome-back : (outcome : Outcome ℕ) → outcomeOf (outcomeNumbers outcome) ≡ outcome

@@ -27,7 +27,7 @@ module _ {W : Type 0} where
   one-changed r i h = record { cells = refl; others = λ j ne. put-other (r .handlers) i h j ne }
 
   -- An answer ok is no abort,
-  ok-no-abort : (reason : Reason) → _≡_ {A = Outcome W} ok (aborted reason) → ⊥
+  pub ok-no-abort : (reason : Reason) → _≡_ {A = Outcome W} ok (aborted reason) → ⊥
   ok-no-abort reason e = let z : _≡_ {A = ℕ} 0 1 = cc in omega arith
 
   -- nor is a commit,

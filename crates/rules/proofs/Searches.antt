@@ -3,13 +3,13 @@
 use Prim.Native.Nat.{ℕ, suc, _+_, _≤_, _<_}
 use native.Mathlib.Omega.{arith}
 use mathlib.Core.Path.{_≡_, refl, sym, ap, _∙_}
-use mathlib.Core.Bool.{Bool, true, false, _||_}
+use mathlib.Core.Bool.{Bool, true, false, _||_, or-true}
 use mathlib.Core.Option.{Option, none, some}
 use lib.Dec.{eqb}
 use borrow.Author.Count.{below-more}
 use borrow.Author.Tests.{eqb-true, eqb-false}
 use Rattle.rules.specs.Tables.{orElse, lowest, isFound, someBelow}
-use Rattle.rules.proofs.Tables.{by, same-test, some-true, some-from, some-none}
+use Rattle.rules.proofs.Tables.{by, both-ways, either, same-test, some-true, some-from, some-none}
 
 -- No place below y passes the test.
 abbrev pub NoneBelow : (ℕ → Bool) → ℕ → Type 0
@@ -52,3 +52,22 @@ found-next (some y) false place = refl
 pub some-next : (m : ℕ) (test : ℕ → Bool) → someBelow (suc m) test ≡ test m || someBelow m test
 unfolding someBelow lowest
 some-next m test = found-next (lowest m test) (test m) m
+
+-- Where a test is another at one place, which failed before, some place passes it just where that one does or some place did before.
+pub some-more : (m : ℕ) (test other : ℕ → Bool) (x : ℕ) → x < m → test x ≡ false
+    → ((y : ℕ) → (y ≡ x → ⊥) → other y ≡ test y) → other x || someBelow m test ≡ someBelow m other
+some-more m test other x inside failed others = same-test (other x || someBelow m test) (someBelow m other) to from
+  where
+    to : other x || someBelow m test ≡ true → someBelow m other ≡ true
+    to e = either (other x) (someBelow m test) e (some-from m other x inside)
+        (λ q. let place = some-true m test q in
+        let apart : place .0 ≡ x → ⊥ = λ same. both-ways (ap test (sym same) ∙ place .2) failed in
+        some-from m other (place .0) (place .1) (others (place .0) apart ∙ place .2))
+
+    from : someBelow m other ≡ true → other x || someBelow m test ≡ true
+    from e =
+        let place = some-true m other e in
+        by (eqb (place .0) x)
+        (λ q. ap (λ b. b || someBelow m test) (ap other (sym (eqb-true (place .0) x q)) ∙ place .2))
+        (λ q. ap (λ b. other x || b) (some-from m test (place .0) (place .1) (sym (others (place .0) (eqb-false (place .0) x q)) ∙ place .2))
+        ∙ or-true (other x))

@@ -17,14 +17,14 @@ use Rattle.rules.specs.History.{note, noteReply}
 use Rattle.rules.specs.Past.{Stands, last, older, inPast, upTo}
 use Rattle.rules.specs.Replay.{replay, Finds}
 use Rattle.rules.specs.Demand.{Ask, State, start, moved, run, Consistent, ThirdDemand}
-use Rattle.rules.specs.Judge.{numberAmong, answer, Told, HistoryTells}
+use Rattle.rules.specs.Judge.{versionCount, numberAmong, answer, Told, HistoryTells}
 use Rattle.rules.proofs.Tables.{or-left, or-right}
 use Rattle.rules.proofs.Steps.{hasTaken, tornAt, reading-cases, trying-cases}
 use Rattle.rules.proofs.Turns.{turn-cases}
 use Rattle.rules.proofs.Versions.{number-most, number-writer}
 use Rattle.rules.proofs.Sources.{wroteBy-writer}
 use Rattle.rules.proofs.Replays.{present-value}
-use Rattle.rules.proofs.Invariant.{Carries, Invariant, from-past, begun-carries, wrote-carries, again-carries}
+use Rattle.rules.proofs.Invariant.{Carries, Invariant, own-number, from-past, begun-carries, wrote-carries, again-carries}
 use Rattle.rules.proofs.Invariant.{fresh-invariant, doing-invariant, with-same}
 use Rattle.rules.proofs.Reading.{taken-carries}
 use Rattle.rules.proofs.Committing.{own, held, check-finds, abort-invariant, commit-invariant}
@@ -40,6 +40,13 @@ Found S commits = (c : Commit _) (earlier : List (Commit _)) → Stands commits 
 pub record Kept {W : Type 0} (S : Setting W) (r : Register W) (h : History W) : Type 0 where
   pub invariant : Invariant S r h
   pub found : Found S (h .commits)
+
+-- The history tells of the cell x:
+pub record CellTold {W : Type 0} (S : Setting W) (r : Register W) (h : History W) (x : ℕ) : Type 0 where
+  -- its value is what all commits leave there,
+  pub value : r .cells x .value ≡ replay S (h .commits) everyCommit x
+  -- and its own number is how many of them wrote it
+  pub number : r .cells x .numbers x ≡ versionCount (h .commits) x
 
 -- ── Every step ────────────────────────────────────────────────────────
 
@@ -140,14 +147,14 @@ module _ {W : Type 0} (S : Setting W) (r : Register W) (h : History W) (i : ℕ)
 
 -- ── Every list of steps ───────────────────────────────────────────────
 
-module _ {W : Type 0} (S : Setting W) (n : ℕ) where
-  -- A refusal is not noted.
-  note-refused : (h : History W) (i : ℕ) (kind : Kind) (v : W) (refusal : Refusal)
-      → noteReply h i kind v (Reply.refused refusal) ≡ h
-  unfolding noteReply
-  note-refused h i (known s) v refusal = refl
-  note-refused h i unknown v refusal = refl
+-- A refusal is not noted.
+pub note-refused : {W : Type 0} (h : History W) (i : ℕ) (kind : Kind) (v : W) (refusal : Refusal)
+    → noteReply h i kind v (Reply.refused refusal) ≡ h
+unfolding noteReply
+note-refused h i (known s) v refusal = refl
+note-refused h i unknown v refusal = refl
 
+module _ {W : Type 0} (S : Setting W) (n : ℕ) where
   -- Every turn, refused or taken.
   pub turn-kept : (r : Register W) (h : History W) (i code : ℕ) (v : W) → Kept S r h
       → Kept S (turn S n true r i code v .after) (noteReply h i (kindOf code) v (turn S n true r i code v .reply))
@@ -207,6 +214,13 @@ module _ {W : Type 0} (S : Setting W) (n : ℕ) (asks : List (Ask W)) where
   pub judged : (i : ℕ) (s : Step) (v : W) → run S n (start S) asks .history .opened i ≡ phaseFor s
       → step S (run S n (start S) asks .register) i s v .outcome ≡ answer S (run S n (start S) asks .history) i s
   judged = answer-is S (run S n (start S) asks .register) (run S n (start S) asks .history) (reached-kept .invariant)
+
+  -- There, the history tells of each cell.
+  pub cells-told : (x : ℕ) → CellTold S (run S n (start S) asks .register) (run S n (start S) asks .history) x
+  cells-told x = record {
+    value = reached-kept .invariant .values x;
+    number = own-number S (run S n (start S) asks .register) (run S n (start S) asks .history) (reached-kept .invariant) x;
+  }
 
 -- The third demand holds.
 pub third-demand : ThirdDemand

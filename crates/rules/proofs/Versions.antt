@@ -61,6 +61,13 @@ module _ {W : Type 0} where
   unfolding writer
   writer-old c commits x e = among-old c commits everyCommit x e .0
 
+  -- A cell has had no more versions than there are commits.
+  pub count-most : (commits : List (Commit W)) (y : ℕ) → versionCount commits y ≤ length commits
+  count-most [] y = unfold versionCount in omega arith
+  count-most (c ∷ commits) y = by (hasWritten (c .deeds) y)
+      (λ e. omega (arith, count-new c commits y e, count-most commits y))
+      (λ e. omega (arith, count-old c commits y e, count-most commits y))
+
   -- The writer stands.
   pub writer-stood : (commits : List (Commit W)) (x : ℕ) → writer commits x ≤ length commits
   writer-stood [] x = unfold writer writerAmong in omega arith

@@ -5,7 +5,7 @@ use mathlib.Core.Path.{_≡_}
 use mathlib.Core.Bool.{Bool, true, false}
 use Rattle.rules.specs.Codes.{Step, begin, try, read, write, Kind, known, unknown}
 use Rattle.rules.specs.Replies.{Refusal, notWellFormed, noHandler, noCell, alreadyOpen, notOpen, unknownStep, outOfRange, tooShort}
-use Rattle.rules.specs.Replies.{badFile, usedUp}
+use Rattle.rules.specs.Replies.{badFile, usedUp, tooManyCommits}
 use Rattle.rules.specs.Checks.{Asked}
 
 -- The step names no cell at m or above.
@@ -40,7 +40,7 @@ pub record Placed (a : Asked) (s : Step) : Type 0 where
   pub heard : Heard a s
   pub cell : Within (a .cellCount) s
 
--- When a step is refused with each number. An opening's, a file's and an order place's are given to no step.
+-- When a step is refused with each number. An opening's, a file's, an order place's and the judge's are given to no step.
 abbrev pub Given : Refusal → Asked → Type 0
 Given notWellFormed a = a .wellFormed ≡ false
 Given unknownStep a = (a .wellFormed ≡ true) × (a .kind ≡ unknown)
@@ -52,6 +52,7 @@ Given outOfRange a = ⊥
 Given tooShort a = ⊥
 Given badFile a = ⊥
 Given usedUp a = ⊥
+Given tooManyCommits a = ⊥
 
 -- The phase that a step wants: begin an idle handler, all others an open one.
 abbrev pub phaseFor : Step → Bool
@@ -84,3 +85,4 @@ OpeningGiven outOfRange m n long need = InRange m n → ⊥
 OpeningGiven tooShort m n long need = InRange m n × (long < need)
 OpeningGiven badFile m n long need = ⊥
 OpeningGiven usedUp m n long need = ⊥
+OpeningGiven tooManyCommits m n long need = ⊥

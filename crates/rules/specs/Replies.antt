@@ -24,11 +24,12 @@ pub record Report (W : Type 0) : Type 0 where
   pub code : ℕ
   pub outcome : Outcome W
 
--- Why a step, an opening, a schedule file or an order place is refused.
+-- Why a step, an opening, a schedule file or an order place is refused, and why the judge stops.
 pub data Refusal : Type 0 where
   notWellFormed noHandler noCell alreadyOpen notOpen unknownStep : Refusal
   outOfRange tooShort : Refusal
   badFile usedUp : Refusal
+  tooManyCommits : Refusal
 
 -- The reply to a step: a report, or a refusal.
 pub data Reply (W : Type 0) : Type 0 where
@@ -60,6 +61,7 @@ refusalNumber outOfRange = 20
 refusalNumber tooShort = 21
 refusalNumber badFile = 30
 refusalNumber usedUp = 32
+refusalNumber tooManyCommits = 33
 
 -- An answer in numbers: its kind (0 ok, 1 value, 2 commit, 3 abort, 4 refused), and its value or number, 0 where there is none.
 pub record Numbers : Type 0 where

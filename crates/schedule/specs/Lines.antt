@@ -1,35 +1,26 @@
--- The run of a file over bytes and words: one order place on cursors and the words of a register, and places one after another.
+-- The run of a file over bytes and words: one order place on cursors and the words of whatever answers its steps, and places one
+-- after another.
 use Prim.Native.Nat.{ℕ, zero, suc, _+_}
 use mathlib.Core.Path.{_≡_}
 use mathlib.Core.List.{List, [], _∷_}
 use mathlib.Core.Option.{Option, none, some}
+use Rattle.rules.specs.Replies.{Reply}
 use Rattle.promises.specs.Stepping.{turnOf, stepWords}
+use Rattle.schedule.specs.Scripts.{ScriptStep}
 use Rattle.schedule.specs.Taking.{Cursors, Next, rejected, over, refused, taken, nextOf, cursorsAfter}
 use Rattle.schedule.specs.Runs.{Line, noStep, stepLine}
 
--- The line of a place, if there is one: a file that is refused has none, nor has a place beyond the order.
-unfoldable pub lineFor : List ℕ → ℕ → Next → Option Line
-lineFor words place (rejected refusal) = none
-lineFor words place over = none
-lineFor words place (refused handler refusal) = some (noStep place handler refusal)
-lineFor words place (taken handler step) =
-    some (stepLine place handler (step .code) (turnOf words handler (step .code) (step .value) .reply))
+-- What answers the steps of a run from the words that it keeps: the reply to a handler's step, and the words afterwards.
+pub record Player : Type 0 where
+  pub reply : List ℕ → ℕ → ScriptStep → Reply ℕ
+  pub after : List ℕ → ℕ → ScriptStep → List ℕ
 
--- The words after a place: what a step that is taken leaves, and else as they were.
-unfoldable pub wordsFor : List ℕ → Next → List ℕ
-wordsFor words (rejected refusal) = words
-wordsFor words over = words
-wordsFor words (refused handler refusal) = words
-wordsFor words (taken handler step) =
-    let t = turnOf words handler (step .code) (step .value) in
-    stepWords words (t .reply) (t .after)
-
--- The promise of one order place on cursors and words: the line, and the cursors and words that it leaves.
-pub record PlacePromise (file : List ℕ) (cursors : Cursors) (place : ℕ) (words : List ℕ)
-    (line : Option Line) (cursorsLeft : Cursors) (wordsLeft : List ℕ) : Type 0 where
-  pub shown : line ≡ lineFor words place (nextOf file cursors place)
-  pub used : cursorsLeft ≡ cursorsAfter cursors (nextOf file cursors place)
-  pub left : wordsLeft ≡ wordsFor words (nextOf file cursors place)
+-- The register answers as its promise says.
+abbrev pub theRegister : Player
+theRegister = record {
+  reply = λ words handler step. turnOf words handler (step .code) (step .value) .reply;
+  after = λ words handler step. let t = turnOf words handler (step .code) (step .value) in stepWords words (t .reply) (t .after);
+}
 
 -- Lines, and the words at the end.
 pub record WordRun : Type 0 where
@@ -41,10 +32,32 @@ abbrev pub inFront : Option Line → List Line → List Line
 inFront none lines = lines
 inFront (some line) lines = line ∷ lines
 
--- So many order places, one after another.
-unfoldable pub placesFrom : List ℕ → ℕ → Cursors → ℕ → List ℕ → WordRun
-placesFrom file zero cursors place words = record { lines = []; words = words }
-placesFrom file (suc count) cursors place words =
-    let next = nextOf file cursors place in
-    let rest = placesFrom file count (cursorsAfter cursors next) (place + 1) (wordsFor words next) in
-    record { lines = inFront (lineFor words place next) (rest .lines); words = rest .words }
+module _ (player : Player) where
+  -- The line of a place, if there is one: a file that is refused has none, nor has a place beyond the order.
+  unfoldable pub lineFor : List ℕ → ℕ → Next → Option Line
+  lineFor words place (rejected refusal) = none
+  lineFor words place over = none
+  lineFor words place (refused handler refusal) = some (noStep place handler refusal)
+  lineFor words place (taken handler step) = some (stepLine place handler (step .code) (player .reply words handler step))
+
+  -- The words after a place: what a step that is taken leaves, and else as they were.
+  unfoldable pub wordsFor : List ℕ → Next → List ℕ
+  wordsFor words (rejected refusal) = words
+  wordsFor words over = words
+  wordsFor words (refused handler refusal) = words
+  wordsFor words (taken handler step) = player .after words handler step
+
+  -- So many order places, one after another.
+  unfoldable pub placesFrom : List ℕ → ℕ → Cursors → ℕ → List ℕ → WordRun
+  placesFrom file zero cursors place words = record { lines = []; words = words }
+  placesFrom file (suc count) cursors place words =
+      let next = nextOf file cursors place in
+      let rest = placesFrom file count (cursorsAfter cursors next) (place + 1) (wordsFor words next) in
+      record { lines = inFront (lineFor words place next) (rest .lines); words = rest .words }
+
+-- The promise of one order place on cursors and a player's words: the line, and the cursors and words that it leaves.
+pub record PlacePromise (player : Player) (file : List ℕ) (cursors : Cursors) (place : ℕ) (words : List ℕ)
+    (line : Option Line) (cursorsLeft : Cursors) (wordsLeft : List ℕ) : Type 0 where
+  pub shown : line ≡ lineFor player words place (nextOf file cursors place)
+  pub used : cursorsLeft ≡ cursorsAfter cursors (nextOf file cursors place)
+  pub left : wordsLeft ≡ wordsFor player words (nextOf file cursors place)

@@ -5,8 +5,8 @@ ghost use Rattle.rules.specs.Codes.{kindOf};
 ghost use Rattle.schedule.specs.Scripts.{isWhole};
 ghost use Rattle.schedule.specs.Fronts.{stepBytes, FrontOf};
 use crate::table::long_at;
-use register::Kind;
 use replies::Refusal;
+use steps::Kind;
 
 // What stands in front of what is left of a script.
 pub enum Front {
@@ -18,7 +18,7 @@ pub enum Front {
 fn step_bytes(code: u8) -> usize
     ensures { λ r. ⌜ r ≡ stepBytes (kindOf code) ⌝ }
 {
-    match register::kind_of(code as u32) {
+    match steps::kind_of(code as u32) {
         Kind::Begin => 1,
         Kind::Try => 1,
         Kind::Read(_) => 1,

@@ -6,7 +6,7 @@ ghost use Rattle.rules.specs.Tables.{if_then_else_};
 ghost use Rattle.layout.specs.Bits.{hasBit};
 ghost use Rattle.layout.specs.Places.{cellLong, cellStart};
 ghost use Rattle.layout.specs.View.{pourCell};
-ghost use Rattle.layout.proofs.Untouched.{splice};
+ghost use Rattle.layout.specs.Rows.{splice};
 ghost use Rattle.words.specs.Rows.{RowOf};
 ghost use Rattle.block.specs.Blocks.{rowCell, rowTable};
 ghost use Rattle.turns.specs.Takes.{Formed};

@@ -9,7 +9,7 @@ use Rattle.rules.proofs.Given.{range-tested}
 use Rattle.rules.proofs.Tables.{by}
 use Rattle.layout.proofs.Places.{size-small}
 use Rattle.promises.specs.Lengths.{lengthFor}
-use Rattle.register.specs.Kinds.{neededIs}
+use Rattle.register.specs.Meaning.{neededIs}
 use Rattle.gateway.specs.Packed.{lengthNumber}
 use Rattle.gateway.proofs.zidlemowo_length.Statement.{statement}
 use Rattle.gateway.proofs.zidlemowo_length.Tie as tie

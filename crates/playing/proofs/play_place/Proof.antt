@@ -1,7 +1,7 @@
 -- `playing::play_place` meets its promise: what the file says comes next is asked of the register.
 use mathlib.Core.Path.{refl}
 use borrow.Author.Needs.{needs}
-use Rattle.schedule.specs.Lines.{lineFor, wordsFor}
+use Rattle.schedule.specs.Lines.{theRegister, lineFor, wordsFor}
 use Rattle.playing.proofs.Shows.{place-shows, asked-shows}
 use Rattle.playing.proofs.play_place.Statement.{statement}
 use Rattle.playing.proofs.play_place.Tie as tie

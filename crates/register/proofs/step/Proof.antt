@@ -10,7 +10,8 @@ use Rattle.rules.specs.Checks.{firstHit, stepChecks}
 use Rattle.layout.specs.Places.{cellsOf}
 use Rattle.promises.specs.Stepping.{askedOf}
 use Rattle.turns.specs.Takes.{Ready}
-use Rattle.register.specs.Kinds.{verdictIs, askedBy}
+use Rattle.steps.specs.Meaning.{verdictIs}
+use Rattle.register.specs.Meaning.{askedBy}
 use Rattle.register.proofs.Stepping.{step-stops, step-ready, step-takes}
 use Rattle.register.proofs.step.Statement.{statement}
 use Rattle.register.proofs.step.Tie as tie

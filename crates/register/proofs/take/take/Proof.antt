@@ -4,7 +4,7 @@ use mathlib.Core.Path.{_≡_, ap}
 use native.Mathlib.Omega.{arith}
 use borrow.Author.Needs.{needs}
 use Rattle.rules.specs.Codes.{Step, Kind, begin, try, read, write, known, unknown}
-use Rattle.register.specs.Kinds.{kindIs}
+use Rattle.steps.specs.Meaning.{kindIs}
 use Rattle.register.proofs.Taking.{ready-for, takes-for, begin-any, try-any, read-any}
 use Rattle.register.proofs.take.take.Statement.{statement}
 use Rattle.register.proofs.take.take.Tie as tie

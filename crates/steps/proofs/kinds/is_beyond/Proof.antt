@@ -1,10 +1,10 @@
--- `register::refusal::is_beyond` meets its contract: a read or a write names its cell, and no other step names one.
+-- `steps::kinds::is_beyond` meets its contract: a read or a write names its cell, and no other step names one.
 use mathlib.Core.Path.{sym, ap}
 use borrow.Author.Needs.{needs}
 use Rattle.rules.specs.Checks.{isBeyond}
-use Rattle.register.specs.Kinds.{kindIs}
-use Rattle.register.proofs.refusal.is_beyond.Statement.{statement}
-use Rattle.register.proofs.refusal.is_beyond.Tie as tie
+use Rattle.steps.specs.Meaning.{kindIs}
+use Rattle.steps.proofs.kinds.is_beyond.Statement.{statement}
+use Rattle.steps.proofs.kinds.is_beyond.Tie as tie
 
 pub is-beyond-spec : {M : Type 1} → statement M
 is-beyond-spec =

@@ -1,9 +1,9 @@
--- `register::kind_of` meets its contract: each range of the match is a range of the rules.
+-- `steps::kind_of` meets its contract: each range of the match is a range of the rules.
 use native.Mathlib.Omega.{arith}
 use borrow.Author.Needs.{needs}
-use Rattle.register.proofs.Codes.{code-begin, code-try, code-read, code-write, code-between, code-beyond}
-use Rattle.register.proofs.kind_of.Statement.{statement}
-use Rattle.register.proofs.kind_of.Tie as tie
+use Rattle.steps.proofs.Codes.{code-begin, code-try, code-read, code-write, code-between, code-beyond}
+use Rattle.steps.proofs.kind_of.Statement.{statement}
+use Rattle.steps.proofs.kind_of.Tie as tie
 
 pub kind-of-spec : {M : Type 1} → statement M
 kind-of-spec =

@@ -1,0 +1,2 @@
+-- What answers in a judged run.
+pub mod Player

@@ -1,0 +1,146 @@
+-- After every outcome of a step that no check refuses, the words say the history that the rules note.
+use Prim.Native.Nat.{ℕ, zero, suc, _<_}
+use native.Mathlib.Omega.{arith}
+use mathlib.Core.Path.{_≡_, refl, sym, ap, _∙_, subst}
+use mathlib.Core.Bool.{Bool, true, false, _||_}
+use mathlib.Core.List.{List, [], _∷_}
+use Rattle.rules.specs.Tables.{if_then_else_}
+use Rattle.rules.specs.Codes.{Step, begin, try, read, write}
+use Rattle.rules.specs.Replies.{Outcome, ok, value, committed, aborted}
+use Rattle.rules.specs.Register.{Setting}
+use Rattle.rules.specs.Given.{Within, phaseFor}
+use Rattle.rules.specs.History.{Deed, look, again, set, History, someLook, hasRead, hasWritten, writer, doing, readDeed}
+use Rattle.rules.specs.History.{note, noteOk, noteValue, ended}
+use Rattle.rules.specs.History as Rules
+use Rattle.rules.specs.Replay.{after}
+use Rattle.rules.specs.Judge.{copied}
+use Rattle.rules.proofs.Tables.{by, both-ways, put-each, put-same, or-left, or-right}
+use Rattle.rules.proofs.Alike.{SameDeeds, SameHistory, deeds-refl, commits-refl, history-refl}
+use Rattle.layout.specs.Places.{cellsOf, handlersOf}
+use Rattle.layout.specs.View.{wordSetting}
+use Rattle.ledger.specs.Entries.{Ledger, Entry, entryIn, withEntry, commitsNoted, mostCommits, handlerRow}
+use Rattle.ledger.specs.Histories.{deedsOf, isOpen, historyIn}
+use Rattle.ledger.specs.Noting.{emptyEntry, readEntry, writtenEntry, noteRead, noteOutcome}
+use Rattle.ledger.specs.Promises.{isCommit}
+use Rattle.ledger.proofs.Deeds.{hasSource, reads-at, written-at}
+use Rattle.ledger.proofs.Noted.{read-noted, write-noted}
+use Rattle.ledger.proofs.Histories.{empty-deeds, same-deeds}
+use Rattle.ledger.proofs.Notes.{Keeps, keeps-itself, entry-keeps, seated, now-is, opened-is, handler-noted}
+use Rattle.ledger.proofs.Notes.{commit-keeps, commit-noted}
+
+-- A repeated read is no deed that an answer asks.
+again-same : {S : Setting ℕ} (x v : ℕ) (deeds : List (Deed ℕ)) → SameDeeds S (again x v ∷ deeds) deeds
+unfolding someLook hasWritten copied after
+again-same x v deeds = record { looks = λ test. refl; writes = λ y. refl; copies = λ y. refl; leaves = λ table y. refl }
+
+-- Where no source is noted the word is 0.
+source-none : (source : ℕ) → hasSource source ≡ false → source ≡ 0
+unfolding hasSource
+source-none zero e = refl
+source-none (suc source) e = both-ways refl e
+
+module _ {words : List ℕ} (ledger : Ledger words) {i : ℕ} (seat : i < handlersOf words) where
+  -- The rules over these words, the history that they say, and the handler's entry.
+  abbrev S : Setting ℕ
+  S = wordSetting (cellsOf words)
+
+  abbrev h : History ℕ
+  h = historyIn words
+
+  abbrev entry : Entry
+  entry = entryIn words (handlerRow i)
+
+  -- A begin is noted.
+  begin-noted : SameHistory S (doing h i []) (historyIn (withEntry words (handlerRow i) (emptyEntry 1)))
+  unfolding doing emptyEntry
+  begin-noted = handler-noted ledger seat (emptyEntry 1) (h .aborts) refl (same-deeds (sym (empty-deeds 1 (cellsOf words))))
+
+  -- An end without a commit is noted.
+  end-noted : SameHistory S (Rules.noteAbort h i) (historyIn (withEntry words (handlerRow i) (emptyEntry 0)))
+  unfolding Rules.noteAbort ended emptyEntry
+  end-noted = handler-noted ledger seat (emptyEntry 0) _ refl (same-deeds (sym (empty-deeds 0 (cellsOf words))))
+
+  module _ (isOpened : h .opened i ≡ true) where
+    -- The handler's entry says that it is open.
+    entry-open : isOpen entry ≡ true
+    entry-open = sym (opened-is ledger seat) ∙ isOpened
+
+    -- A write is noted.
+    write-is-noted : (x v : ℕ) → x < cellsOf words
+        → SameHistory S (doing h i (set x v ∷ h .now i)) (historyIn (withEntry words (handlerRow i) (writtenEntry entry x v)))
+    unfolding doing writtenEntry
+    write-is-noted x v inside = handler-noted ledger seat (writtenEntry entry x v) (h .aborts) entry-open
+        (subst (λ deeds. SameDeeds S (set x v ∷ deeds) (deedsOf (writtenEntry entry x v) (cellsOf words))) (sym (now-is ledger seat))
+        (write-noted S entry (cellsOf words) x v inside))
+
+    -- A repeated read needs no note,
+    repeat-is-noted : (x v : ℕ) → SameHistory S (doing h i (again x v ∷ h .now i)) h
+    unfolding doing
+    repeat-is-noted x v = record {
+      commits = commits-refl;
+      opened = λ j. ap (λ table. table j) (put-same (h .opened) i true isOpened);
+      now = put-each (λ j deeds. SameDeeds S deeds (h .now j)) (h .now) i (again x v ∷ h .now i) (again-same x v (h .now i))
+          (λ j apart. deeds-refl);
+    }
+
+    -- a first read of a cell not written needs one,
+    first-is-noted : (x source v : ℕ) → x < cellsOf words → hasRead (h .now i) x ≡ false → hasWritten (h .now i) x ≡ false
+        → SameHistory S (doing h i (look x source v ∷ h .now i)) (historyIn (withEntry words (handlerRow i) (readEntry entry x source v)))
+    unfolding doing readEntry
+    first-is-noted x source v inside unread unwritten = handler-noted ledger seat (readEntry entry x source v) (h .aborts) entry-open
+        (subst (λ deeds. SameDeeds S (look x source v ∷ deeds) (deedsOf (readEntry entry x source v) (cellsOf words)))
+        (sym (now-is ledger seat)) (read-noted S entry (cellsOf words) x v inside source no-source not-written))
+      where
+        no-source : entry .sources x ≡ 0
+        no-source = source-none (entry .sources x)
+            (sym (reads-at entry (cellsOf words) x inside) ∙ ap (λ deeds. hasRead deeds x) (sym (now-is ledger seat)) ∙ unread)
+
+        not-written : entry .written x ≡ false
+        not-written = sym (written-at entry (cellsOf words) x inside)
+            ∙ ap (λ deeds. hasWritten deeds x) (sym (now-is ledger seat)) ∙ unwritten
+
+    -- and so a read is noted.
+    read-is-noted : (x v : ℕ) → x < cellsOf words
+        → SameHistory S (doing h i (readDeed (h .now i) (writer (h .commits) x) x v ∷ h .now i)) (historyIn (noteRead words i x v))
+    unfolding noteRead readDeed
+    read-is-noted x v inside = by (hasRead (h .now i) x || hasWritten (h .now i) x)
+        (λ e. rw e (repeat-is-noted x v))
+        (λ e. rw e (first-is-noted x (writer (h .commits) x) v inside (or-left (hasRead (h .now i) x) (hasWritten (h .now i) x) e)
+        (or-right (hasRead (h .now i) x) (hasWritten (h .now i) x) e)))
+
+  -- An entry put in for the handler keeps the words a ledger.
+  entry-put : (e : Entry) → Keeps words (withEntry words (handlerRow i) e)
+  entry-put e = entry-keeps ledger (handlerRow i) e (omega arith) (omega (arith, seated ledger seat))
+
+  -- Whatever a step comes to is noted, if there is room for one more commit where it is one.
+  pub outcome-noted : (s : Step) (v : ℕ) (outcome : Outcome ℕ) → Within (cellsOf words) s → h .opened i ≡ phaseFor s
+      → (isCommit outcome ≡ true → commitsNoted words < mostCommits)
+      → SameHistory S (note h i s v outcome) (historyIn (noteOutcome words i s v outcome))
+  unfolding note noteOk noteValue noteOutcome Rules.noteCommit ended
+  outcome-noted begin v ok inside phase room = begin-noted
+  outcome-noted (write x) v ok inside phase room = write-is-noted phase x v inside
+  outcome-noted (read x) v ok inside phase room = history-refl
+  outcome-noted try v ok inside phase room = history-refl
+  outcome-noted (read x) v (value w) inside phase room = read-is-noted phase x w inside
+  outcome-noted begin v (value w) inside phase room = history-refl
+  outcome-noted (write x) v (value w) inside phase room = history-refl
+  outcome-noted try v (value w) inside phase room = history-refl
+  outcome-noted s v committed inside phase room = commit-noted ledger seat (room refl) (h .aborts)
+  outcome-noted s v (aborted reason) inside phase room = end-noted
+
+  -- Whatever a step comes to, the words are a ledger of the same m and n afterwards.
+  pub outcome-keeps : (s : Step) (v : ℕ) (outcome : Outcome ℕ) → (isCommit outcome ≡ true → commitsNoted words < mostCommits)
+      → Keeps words (noteOutcome words i s v outcome)
+  unfolding noteOutcome noteRead
+  outcome-keeps begin v ok room = entry-put (emptyEntry 1)
+  outcome-keeps (write x) v ok room = entry-put (writtenEntry entry x v)
+  outcome-keeps (read x) v ok room = keeps-itself ledger
+  outcome-keeps try v ok room = keeps-itself ledger
+  outcome-keeps (read x) v (value w) room = by (hasRead (h .now i) x || hasWritten (h .now i) x)
+      (λ e. rw e (keeps-itself ledger))
+      (λ e. rw e (entry-put (readEntry entry x (writer (h .commits) x) w)))
+  outcome-keeps begin v (value w) room = keeps-itself ledger
+  outcome-keeps (write x) v (value w) room = keeps-itself ledger
+  outcome-keeps try v (value w) room = keeps-itself ledger
+  outcome-keeps s v committed room = commit-keeps ledger seat (room refl)
+  outcome-keeps s v (aborted reason) room = entry-put (emptyEntry 0)

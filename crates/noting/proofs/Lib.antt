@@ -1,0 +1,2 @@
+-- The laws of noting.
+pub mod Stores

@@ -1,0 +1,4 @@
+-- Laws of step codes and of the checks of a step.
+pub mod Codes
+pub mod Refusing
+pub mod Tight
