@@ -1,2 +1,3 @@
 -- What the judge promises besides the ledger's promises.
 pub mod Ending
+pub mod Taking

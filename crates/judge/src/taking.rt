@@ -1,0 +1,87 @@
+// A step that no check refuses: a 65th commit is refused, and everything else is answered and noted.
+ghost use mathlib.Core.Path.{_≡_};
+ghost use Prim.Native.Nat.{ℕ};
+ghost use Rattle.rules.specs.Codes.{Step, known, try, read};
+ghost use Rattle.layout.specs.Places.{cellsOf};
+ghost use Rattle.replies.specs.Meaning.{outcomeOf, replyOf};
+ghost use Rattle.steps.specs.Meaning.{kindIs};
+ghost use Rattle.judge.specs.Taking.{Ready, Roomy, Takes, Passes};
+use crate::reading::is_too_many;
+use replies::Answer;
+use replies::Outcome;
+use replies::Reason;
+use replies::Refusal;
+use replies::Report;
+use steps::Kind;
+
+// A read of the cell x: its copy, or abort 1, or the value of its present version.
+fn read(words: &mut [u32], m: usize, i: usize, x: usize) -> Outcome
+    requires { ⌜ Ready (now words) m i (read x) ⌝ }
+    ensures { λ r. ⌜ ((v : ℕ) → Takes (now (words .entry)) i (read x) v (outcomeOf r) (now (words .exit))) ⌝ }
+{
+    let row = 1 + i;
+    if answers::has_copy(words, row, x) {
+        return Outcome::Value(words[row * 66 + (34 + x)]);
+    }
+    let count = words[2] as usize;
+    let place = answers::writer_of(words, x, count);
+    if answers::tears(words, m, row, count, place) {
+        noting::empty_row(words, row, 0);
+        return Outcome::Aborted(Reason::Torn);
+    }
+    let value = answers::present_value(words, x, count);
+    noting::note_read(words, row, x, place, value);
+    Outcome::Value(value)
+}
+
+// A try: abort 2, or commit.
+fn attempt(words: &mut [u32], m: usize, i: usize) -> Outcome
+    requires { ⌜ Ready (now words) m i try × Roomy (now words) i try ⌝ }
+    ensures { λ r. ⌜ ((v : ℕ) → Takes (now (words .entry)) i try v (outcomeOf r) (now (words .exit))) ⌝ }
+{
+    if answers::is_stale(words, m, 1 + i, words[2] as usize) {
+        noting::empty_row(words, 1 + i, 0);
+        return Outcome::Aborted(Reason::Overtaken);
+    }
+    noting::note_commit(words, i);
+    Outcome::Committed
+}
+
+// Takes the step, and notes what it comes to. A code that stands for no step is never asked for here.
+fn take(words: &mut [u32], m: usize, i: usize, kind: Kind, value: u32) -> Outcome
+    requires { ⌜ ((s : Step) × (kindIs kind ≡ known s) × Ready (now words) m i s × Roomy (now words) i s) ⌝ }
+    ensures { λ r. ⌜ ((s : Step) → kindIs kind ≡ known s → Takes (now (words .entry)) i s value (outcomeOf r) (now (words .exit))) ⌝ }
+{
+    match kind {
+        Kind::Begin => {
+            noting::empty_row(words, 1 + i, 1);
+            Outcome::Done
+        }
+        Kind::Try => attempt(words, m, i),
+        Kind::Read(x) => read(words, m, i, x),
+        Kind::Write(x) => {
+            noting::note_write(words, 1 + i, x, value);
+            Outcome::Done
+        }
+        Kind::Unknown => Outcome::Done,
+    }
+}
+
+// Takes a step that no check refuses, unless it would be a 65th commit.
+pub fn pass(words: &mut [u32], handler: u32, code: u32, kind: Kind, value: u32) -> Answer
+    requires { ⌜ ((s : Step) × (kindIs kind ≡ known s) × Ready (now words) (cellsOf (now words)) handler s) ⌝ }
+    ensures { λ r. ⌜ ((s : Step) → kindIs kind ≡ known s
+        → Passes (now (words .entry)) handler code s value (replyOf r) (now (words .exit))) ⌝ }
+{
+    let m = words[0] as usize;
+    let i = handler as usize;
+    if is_too_many(words, m, i, kind) {
+        return Answer::Refused(Refusal::TooManyCommits);
+    }
+    let outcome = take(words, m, i, kind, value);
+    Answer::Reported(Report {
+        handler,
+        code,
+        outcome,
+    })
+}
