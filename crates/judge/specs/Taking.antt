@@ -31,6 +31,11 @@ pub record Ready (words : List ℕ) (m i : ℕ) (s : Step) : Type 0 where
 abbrev pub Roomy : List ℕ → ℕ → Step → Type 0
 Roomy words i s = isCommit (answerOf words i s) ≡ true → commitsNoted words < mostCommits
 
+-- Besides, there is room for what it comes to.
+pub record Able (words : List ℕ) (m i : ℕ) (s : Step) : Type 0 where
+  pub ready : Ready words m i s
+  pub room : Roomy words i s
+
 -- The step is answered as the history says, and noted.
 pub record Takes (words : List ℕ) (i : ℕ) (s : Step) (value : ℕ) (outcome : Outcome ℕ) (after : List ℕ) : Type 0 where
   pub replied : outcome ≡ answerOf words i s

@@ -5,7 +5,7 @@ ghost use Rattle.rules.specs.Codes.{Step, known, try, read};
 ghost use Rattle.layout.specs.Places.{cellsOf};
 ghost use Rattle.replies.specs.Meaning.{outcomeOf, replyOf};
 ghost use Rattle.steps.specs.Meaning.{kindIs};
-ghost use Rattle.judge.specs.Taking.{Ready, Roomy, Takes, Passes};
+ghost use Rattle.judge.specs.Taking.{Ready, Able, Takes, Passes};
 use crate::reading::is_too_many;
 use replies::Answer;
 use replies::Outcome;
@@ -36,7 +36,7 @@ fn read(words: &mut [u32], m: usize, i: usize, x: usize) -> Outcome
 
 // A try: abort 2, or commit.
 fn attempt(words: &mut [u32], m: usize, i: usize) -> Outcome
-    requires { ⌜ Ready (now words) m i try × Roomy (now words) i try ⌝ }
+    requires { ⌜ Able (now words) m i try ⌝ }
     ensures { λ r. ⌜ ((v : ℕ) → Takes (now (words .entry)) i try v (outcomeOf r) (now (words .exit))) ⌝ }
 {
     if answers::is_stale(words, m, 1 + i, words[2] as usize) {
@@ -49,7 +49,7 @@ fn attempt(words: &mut [u32], m: usize, i: usize) -> Outcome
 
 // Takes the step, and notes what it comes to. A code that stands for no step is never asked for here.
 fn take(words: &mut [u32], m: usize, i: usize, kind: Kind, value: u32) -> Outcome
-    requires { ⌜ ((s : Step) × (kindIs kind ≡ known s) × Ready (now words) m i s × Roomy (now words) i s) ⌝ }
+    requires { ⌜ ((s : Step) × (kindIs kind ≡ known s) × Able (now words) m i s) ⌝ }
     ensures { λ r. ⌜ ((s : Step) → kindIs kind ≡ known s → Takes (now (words .entry)) i s value (outcomeOf r) (now (words .exit))) ⌝ }
 {
     match kind {

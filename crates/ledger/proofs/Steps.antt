@@ -1,7 +1,7 @@
 -- The judge's step: which replies it can give, and that the words it leaves say the history with the reply noted.
 use Prim.Native.Nat.{ℕ, _<_}
 use mathlib.Core.Path.{_≡_, refl, sym, subst}
-use mathlib.Core.Bool.{true, false, _&&_, and-false}
+use mathlib.Core.Bool.{Bool, true, false, _&&_, and-false}
 use mathlib.Core.List.{List}
 use lib.Dec.{leb}
 use borrow.Author.Tests.{leb-false}
@@ -38,6 +38,11 @@ judgement-cases S n h i code Q isRefused isFree = found (firstHit (stepChecks (a
     (λ e. let free = free-exactly (askedByHistory S n h i code) .0 e in
     subst Q (sym (judged-free S n h i code (free .0) (free .1))) (isFree (free .0) (free .1)))
 
+-- Where a commit would not be one too many there is room for it.
+pub room-for : (noted : ℕ) (commits : Bool) → leb mostCommits noted && commits ≡ false → commits ≡ true → noted < mostCommits
+room-for noted commits passes is = leb-false mostCommits noted
+    (by (leb mostCommits noted) (λ full. both-ways (and-both (leb mostCommits noted) commits full is) passes) (λ room. room))
+
 -- What reports no commit is within every limit,
 pub limited-other : (noted : ℕ) (reply : Reply ℕ) → reportsCommit reply ≡ false → limited noted reply ≡ reply
 unfolding limited
@@ -50,8 +55,7 @@ limited-cases : (noted : ℕ) (Q : Reply ℕ → Type 0) (i code : ℕ) (outcome
 unfolding limited
 limited-cases noted Q i code outcome isRefused isReported = by (leb mostCommits noted && isCommit outcome)
     (λ e. rw e isRefused)
-    (λ e. rw e (isReported (λ commits. leb-false mostCommits noted
-    (by (leb mostCommits noted) (λ full. both-ways (and-both (leb mostCommits noted) (isCommit outcome) full commits) e) (λ room. room)))))
+    (λ e. rw e (isReported (room-for noted (isCommit outcome) e)))
 
 -- A refusal changes no word.
 pub refusal-unnoted : (words : List ℕ) (i : ℕ) (kind : Kind) (v : ℕ) (refusal : Refusal)

@@ -2,3 +2,4 @@
 pub mod Codes
 pub mod Refusing
 pub mod Tight
+pub mod OneStep

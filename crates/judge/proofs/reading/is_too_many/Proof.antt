@@ -1,86 +1,48 @@
+-- `judge::reading::is_too_many` meets its contract: a try with no stale read, where 64 commits are noted.
+use Prim.Native.Nat.{ℕ}
+use mathlib.Core.Path.{_≡_, ap}
+use mathlib.Core.Bool.{false, not}
+use mathlib.Core.List.{List}
+use native.Mathlib.Omega.{arith}
 use borrow.Author.Needs.{needs}
+use Rattle.rules.specs.Codes.{Step, begin, try, read, write, Kind, known}
+use Rattle.steps.specs.Meaning.{kindIs}
+use Rattle.steps.proofs.OneStep.{for-kind, no-step}
+use Rattle.judge.proofs.Answers.{stale-told}
+use Rattle.judge.proofs.Tests.{tooMany, room-left, begin-passes, write-passes, read-passes, try-too-many}
 use Rattle.judge.proofs.reading.is_too_many.Statement.{statement}
 use Rattle.judge.proofs.reading.is_too_many.Tie as tie
-use Rattle.judge.proofs.reading.is_too_many.Reads as reads
-use Rattle.judge.proofs.reading.is_too_many.Lts as lts
-use Rattle.answers.proofs.is_stale.Reads as is-stale-reads
 
--- src/reading.rt:44:17
-shared-slice-read-count : tie.Need-shared-slice-read-count
-shared-slice-read-count c = search needs
-
--- src/reading.rt:44:17
-cast-count : tie.Need-cast-count
-cast-count c = search needs
-
--- src/reading.rt:46:9
-returns : tie.Need-returns
-returns c = ?
-
--- src/reading.rt:49:51
-enum-told : tie.Need-enum-told
-enum-told c = search needs
-
--- src/reading.rt:49:51
-add-is-stale : tie.Need-add-is-stale
-add-is-stale c = search needs
-
--- src/reading.rt:49:23
-is-stale-requires : tie.Need-is-stale-requires
-is-stale-requires c κs = search needs
-
--- src/reading.rt:50:24
-enum-told-2 : tie.Need-enum-told-2
-enum-told-2 c = search needs
-
--- src/reading.rt:51:26
-enum-told-3 : tie.Need-enum-told-3
-enum-told-3 c = search needs
-
--- src/reading.rt:52:27
-enum-told-4 : tie.Need-enum-told-4
-enum-told-4 c = search needs
-
--- src/reading.rt:53:26
-enum-told-5 : tie.Need-enum-told-5
-enum-told-5 c = search needs
-
--- src/reading.rt:39:1
-returns-2 : tie.Need-returns-2
-returns-2 c = ?
-
--- src/reading.rt:39:1
-returns-3 : tie.Need-returns-3
-returns-3 c = ?
-
--- src/reading.rt:39:1
-returns-4 : tie.Need-returns-4
-returns-4 c = ?
-
--- src/reading.rt:39:1
-returns-5 : tie.Need-returns-5
-returns-5 c = ?
-
--- src/reading.rt:39:1
-returns-6 : tie.Need-returns-6
-returns-6 c = ?
+-- A step of this kind is not one commit too many.
+passing : (words : List ℕ) (i : ℕ) {kind : Kind} (t : Step) → kind ≡ known t → false ≡ tooMany words i t
+    → (s : Step) → kind ≡ known s → false ≡ tooMany words i s
+passing words i = for-kind (λ s. false ≡ tooMany words i s)
 
 pub is-too-many-spec : {M : Type 1} → statement M
 is-too-many-spec =
     tie.close
     (tie.spec
-    shared-slice-read-count
-    cast-count
-    returns
-    enum-told
-    add-is-stale
-    is-stale-requires
-    enum-told-2
-    enum-told-3
-    enum-told-4
-    enum-told-5
-    returns-2
-    returns-3
-    returns-4
-    returns-5
-    returns-6)
+    (λ c. search needs)
+    (λ c. search needs)
+    (λ c s e. let start = c .before .before .before in room-left (start .args .words .now) (start .args .i) (omega arith) s)
+    (λ c. search needs)
+    (λ c. search needs)
+    (λ c κs. let ready = c .before .before .before .before .before .pre .2 in (
+      omega (arith, ready .ledger .long),
+      omega (arith, ready .cells, ready .ledger .range .cells),
+      omega (arith, ready .handler, ready .ledger .range .handlers),
+      omega (arith, ready .ledger .few)))
+    (λ c. search needs)
+    (λ c. search needs)
+    (λ c. search needs)
+    (λ c. search needs)
+    -- a try
+    (λ c. let start = c .before .before .before .before .before .before in
+    let ready = start .pre .2 in
+    for-kind (λ s. not (c .is-stale .result) ≡ tooMany (start .args .words .now) (start .args .i) s) try (ap kindIs (c .before .enum-told .given .1))
+    (try-too-many _ _ (ready .ledger) (ready .handler) (omega (arith, c .before .before .before .if1 .left)) (stale-told ready (c .is-stale .ensures))))
+    -- a begin, a read, a write
+    (λ c. passing _ _ begin (ap kindIs (c .enum-told2 .given .1)) (begin-passes _ _))
+    (λ c. passing _ _ (read _) (ap kindIs (c .enum-told3 .given .1)) (read-passes _ _ _))
+    (λ c. passing _ _ (write _) (ap kindIs (c .enum-told4 .given .1)) (write-passes _ _ _))
+    (λ c s e. absurd (no-step s (ap kindIs (c .enum-told5 .given .1)) e)))

@@ -1,68 +1,33 @@
+-- `judge::taking::attempt` meets its contract: a stale read ends the transaction, and without one it commits.
+use mathlib.Core.Path.{_≡_, _∙_}
+use mathlib.Core.Bool.{Bool}
 use borrow.Author.Needs.{needs}
+use Rattle.judge.proofs.Answers.{isStale, stale-told, takes-overtaken, takes-commit, commit-room}
 use Rattle.judge.proofs.taking.attempt.Statement.{statement}
 use Rattle.judge.proofs.taking.attempt.Tie as tie
-use Rattle.judge.proofs.taking.attempt.Reads as reads
-use Rattle.judge.proofs.taking.attempt.Lts as lts
-use Rattle.answers.proofs.is_stale.Reads as is-stale-reads
-use Rattle.noting.proofs.empty_row.Reads as empty-row-reads
-use Rattle.noting.proofs.note_commit.Reads as note-commit-reads
 
--- src/taking.rt:42:36
-add-is-stale : tie.Need-add-is-stale
-add-is-stale c = search needs
-
--- src/taking.rt:42:43
-slice-reshared-read-is-stale : tie.Need-slice-reshared-read-is-stale
-slice-reshared-read-is-stale c = search needs
-
--- src/taking.rt:42:43
-cast-is-stale : tie.Need-cast-is-stale
-cast-is-stale c = search needs
-
--- src/taking.rt:42:8
-is-stale-requires : tie.Need-is-stale-requires
-is-stale-requires c κs = search needs
-
--- src/taking.rt:43:34
-add-empty-row : tie.Need-add-empty-row
-add-empty-row c = search needs
-
--- src/taking.rt:43:9
-empty-row-requires : tie.Need-empty-row-requires
-empty-row-requires c κs = search needs
-
--- src/taking.rt:44:9
-same-length : tie.Need-same-length
-same-length c = search needs
-
--- src/taking.rt:44:9
-returns : tie.Need-returns
-returns c = ?
-
--- src/taking.rt:46:5
-note-commit-requires : tie.Need-note-commit-requires
-note-commit-requires c κs = ?
-
--- src/taking.rt:38:1
-same-length-2 : tie.Need-same-length-2
-same-length-2 c = search needs
-
--- src/taking.rt:38:1
-returns-2 : tie.Need-returns-2
-returns-2 c = ?
+-- What was asked of the row.
+asked : (c : tie.After-is-stale) → let args = c .before .before .before .args in isStale (args .words .now) (args .i) ≡ c .is-stale .result
+asked c = stale-told (c .before .before .before .pre .ready) (c .is-stale .ensures)
 
 pub attempt-spec : {M : Type 1} → statement M
 attempt-spec =
     tie.close
     (tie.spec
-    add-is-stale
-    slice-reshared-read-is-stale
-    cast-is-stale
-    is-stale-requires
-    add-empty-row
-    empty-row-requires
-    same-length
-    returns
-    note-commit-requires
-    same-length-2
-    returns-2)
+    (λ c. search needs)
+    (λ c. search needs)
+    (λ c. search needs)
+    (λ c κs. search needs)
+    (λ c. search needs)
+    (λ c κs. search needs)
+    (λ c. search needs)
+    -- abort 2
+    (λ c v. let told = c .before .before .before .before in
+    takes-overtaken (told .before .before .before .before .pre .ready) (asked (told .before) ∙ told .if1 .taken) v (c .before .before .empty-row .ensures))
+    (λ c κs. let told = c .before in
+    let pre = told .before .before .before .before .pre in
+    (pre .ready .ledger, pre .ready .handler, commit-room (pre .ready) (pre .room) (asked (told .before) ∙ told .if1 .left)))
+    (λ c. search needs)
+    -- commit
+    (λ c v. let told = c .before .before .before .before in
+    takes-commit (told .before .before .before .before .pre .ready) (asked (told .before) ∙ told .if1 .left) v (c .before .before .note-commit .ensures)))

@@ -1,52 +1,33 @@
+-- `judge::taking::pass` meets its contract: one commit too many is refused, and everything else is taken and reported.
+use mathlib.Core.Path.{_≡_, sym, _∙_}
+use native.Mathlib.Omega.{arith}
 use borrow.Author.Needs.{needs}
+use Rattle.rules.specs.Codes.{Step, known}
+use Rattle.steps.specs.Meaning.{kindIs}
+use Rattle.judge.proofs.Tests.{tooMany}
+use Rattle.judge.proofs.Passing.{has-room, pass-stops, pass-takes}
 use Rattle.judge.proofs.taking.pass.Statement.{statement}
 use Rattle.judge.proofs.taking.pass.Tie as tie
-use Rattle.judge.proofs.taking.pass.Reads as reads
-use Rattle.judge.proofs.taking.pass.Lts as lts
-use Rattle.judge.proofs.reading.is_too_many.Reads as is-too-many-reads
-use Rattle.judge.proofs.taking.take.Reads as take-reads
 
--- src/taking.rt:76:13
-slice-read-m : tie.Need-slice-read-m
-slice-read-m c = search needs
-
--- src/taking.rt:76:13
-cast-m : tie.Need-cast-m
-cast-m c = search needs
-
--- src/taking.rt:78:8
-is-too-many-requires : tie.Need-is-too-many-requires
-is-too-many-requires c κs = search needs
-
--- src/taking.rt:79:9
-same-length : tie.Need-same-length
-same-length c = search needs
-
--- src/taking.rt:79:9
-returns : tie.Need-returns
-returns c = ?
-
--- src/taking.rt:81:9
-take-requires : tie.Need-take-requires
-take-requires c κs = ?
-
--- src/taking.rt:71:1
-same-length-2 : tie.Need-same-length-2
-same-length-2 c = search needs
-
--- src/taking.rt:71:1
-returns-2 : tie.Need-returns-2
-returns-2 c = ?
+-- What was asked of the step.
+asked : (c : tie.After-is-too-many) (s : Step) → let args = c .before .before .before .before .args in kindIs (args .kind) ≡ known s
+    → tooMany (args .words .now) (args .handler) s ≡ c .is-too-many .result
+asked c s e = sym (c .is-too-many .ensures s e)
 
 pub pass-spec : {M : Type 1} → statement M
 pass-spec =
     tie.close
     (tie.spec
-    slice-read-m
-    cast-m
-    is-too-many-requires
-    same-length
-    returns
-    take-requires
-    same-length-2
-    returns-2)
+    (λ c. omega (arith, c .before .pre .2 .ledger .long))
+    (λ c. search needs)
+    (λ c κs. search needs)
+    (λ c. search needs)
+    -- 33
+    (λ c s e. pass-stops _ _ s (asked (c .before) s e ∙ c .if1 .taken))
+    (λ c κs. let told = c .before in
+    let (s, e, ready) = told .before .before .before .before .before .pre in
+    (s, e, record { ready = ready; room = has-room _ _ s (asked (told .before) s e ∙ told .if1 .left) }))
+    (λ c. search needs)
+    -- reported
+    (λ c s e. let told = c .before .before .before .before in
+    pass-takes _ _ s (asked (told .before) s e ∙ told .if1 .left) (c .before .before .take .ensures s e)))

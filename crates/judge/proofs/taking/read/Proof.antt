@@ -1,116 +1,59 @@
+-- `judge::taking::read` meets its contract: the copy, or abort 1, or the value of the present version, which is noted.
+use mathlib.Core.Path.{_≡_, sym, _∙_}
+use native.Mathlib.Omega.{arith}
 use borrow.Author.Needs.{needs}
+use Rattle.judge.proofs.Answers.{touched, isTorn, torn-told, takes-again, takes-torn, takes-first}
 use Rattle.judge.proofs.taking.read.Statement.{statement}
 use Rattle.judge.proofs.taking.read.Tie as tie
-use Rattle.judge.proofs.taking.read.Reads as reads
-use Rattle.judge.proofs.taking.read.Lts as lts
-use Rattle.answers.proofs.has_copy.Reads as has-copy-reads
-use Rattle.answers.proofs.present_value.Reads as present-value-reads
-use Rattle.answers.proofs.tears.Reads as tears-reads
-use Rattle.answers.proofs.writer_of.Reads as writer-of-reads
-use Rattle.noting.proofs.empty_row.Reads as empty-row-reads
-use Rattle.noting.proofs.note_read.Reads as note-read-reads
 
--- src/taking.rt:22:15
-add-row : tie.Need-add-row
-add-row c = search needs
+-- What was asked of the cell.
+asked : (c : tie.After-has-copy) → let args = c .before .before .before .args in touched (args .words .now) (args .i) (args .x) ≡ c .has-copy .result
+asked c = sym (c .has-copy .ensures _ (c .before .before .before .pre .cell))
 
--- src/taking.rt:23:8
-has-copy-requires : tie.Need-has-copy-requires
-has-copy-requires c κs = search needs
-
--- src/taking.rt:24:37
-mul-t12 : tie.Need-mul-t12
-mul-t12 c = search needs
-
--- src/taking.rt:24:49
-add-t13 : tie.Need-add-t13
-add-t13 c = search needs
-
--- src/taking.rt:24:37
-add-t14 : tie.Need-add-t14
-add-t14 c = search needs
-
--- src/taking.rt:24:31
-mul-t15 : tie.Need-mul-t15
-mul-t15 c = search needs
-
--- src/taking.rt:24:31
-slice-read-t17 : tie.Need-slice-read-t17
-slice-read-t17 c = search needs
-
--- src/taking.rt:24:9
-same-length : tie.Need-same-length
-same-length c = search needs
-
--- src/taking.rt:24:9
-returns : tie.Need-returns
-returns c = ?
-
--- src/taking.rt:26:17
-slice-read-count : tie.Need-slice-read-count
-slice-read-count c = search needs
-
--- src/taking.rt:26:17
-cast-count : tie.Need-cast-count
-cast-count c = search needs
-
--- src/taking.rt:27:9
-writer-of-requires : tie.Need-writer-of-requires
-writer-of-requires c κs = search needs
-
--- src/taking.rt:28:8
-tears-requires : tie.Need-tears-requires
-tears-requires c κs = search needs
-
--- src/taking.rt:29:9
-empty-row-requires : tie.Need-empty-row-requires
-empty-row-requires c κs = search needs
-
--- src/taking.rt:30:9
-same-length-2 : tie.Need-same-length-2
-same-length-2 c = search needs
-
--- src/taking.rt:30:9
-returns-2 : tie.Need-returns-2
-returns-2 c = ?
-
--- src/taking.rt:32:9
-present-value-requires : tie.Need-present-value-requires
-present-value-requires c κs = search needs
-
--- src/taking.rt:33:5
-note-read-requires : tie.Need-note-read-requires
-note-read-requires c κs = ?
-
--- src/taking.rt:18:1
-same-length-3 : tie.Need-same-length-3
-same-length-3 c = search needs
-
--- src/taking.rt:18:1
-returns-3 : tie.Need-returns-3
-returns-3 c = ?
+-- What was asked of the commits.
+torn : (c : tie.After-tears) → let args = c .before .before .before .before .before .before .before .before .before .args in
+    isTorn (args .words .now) (args .i) (args .x) ≡ c .tears .result
+torn c =
+    let pre = c .before .before .before .before .before .before .before .before .before .pre in
+    torn-told pre _ (c .before .before .writer-of .ensures .0 _ (pre .cell)) (c .tears .ensures)
 
 pub read-spec : {M : Type 1} → statement M
 read-spec =
     tie.close
     (tie.spec
-    add-row
-    has-copy-requires
-    mul-t12
-    add-t13
-    add-t14
-    mul-t15
-    slice-read-t17
-    same-length
-    returns
-    slice-read-count
-    cast-count
-    writer-of-requires
-    tears-requires
-    empty-row-requires
-    same-length-2
-    returns-2
-    present-value-requires
-    note-read-requires
-    same-length-3
-    returns-3)
+    (λ c. search needs)
+    (λ c κs. search needs)
+    (λ c. search needs)
+    (λ c. search needs)
+    (λ c. search needs)
+    (λ c. search needs)
+    (λ c. search needs)
+    (λ c. search needs)
+    -- the copy
+    (λ c v. let told = c .before in takes-again (told .before .before .before .before .pre) (asked (told .before) ∙ told .if1 .taken) v)
+    (λ c. search needs)
+    (λ c. search needs)
+    (λ c κs. search needs)
+    (λ c κs. search needs)
+    (λ c κs. search needs)
+    (λ c. search needs)
+    -- abort 1
+    (λ c v. let told = c .before .before .before .before in
+    let first = told .before .before .before .before .before .before in
+    takes-torn (first .before .before .before .before .pre) (asked (first .before) ∙ first .if1 .left) (torn (told .before) ∙ told .if2 .taken) v
+    (c .before .before .empty-row .ensures))
+    (λ c κs. search needs)
+    (λ c κs. let wrote = c .before .before .before .before .before .before in
+    let start = wrote .before .before .before .before .before .before .before in
+    let pre = start .pre in
+    ((omega (arith, pre .handler, pre .ledger .range .handlers), omega (arith, pre .ledger .long),
+    omega (arith, pre .cell, pre .ledger .range .cells), omega (arith, wrote .writer-of .ensures .1, pre .ledger .few)),
+    wrote .before .before .before .before .before .before .slice-known .given _ .fits))
+    (λ c. search needs)
+    -- the value
+    (λ c v. let told = c .before .before .before .before .before .before in
+    let first = told .before .before .before .before .before .before in
+    let start = first .before .before .before .before in
+    takes-first (start .pre) (asked (first .before) ∙ first .if1 .left) (torn (told .before) ∙ told .if2 .left) v _ _
+    (told .before .before .before .writer-of .ensures .0 _ (start .pre .cell)) (c .before .before .before .before .present-value .ensures _ (start .pre .cell))
+    (c .before .before .note-read .ensures)))

@@ -1,17 +1,12 @@
 -- `register::take::take` meets its contract: each kind of code takes its step.
-use Prim.Native.Nat.{ℕ}
-use mathlib.Core.Path.{_≡_, ap}
-use native.Mathlib.Omega.{arith}
+use mathlib.Core.Path.{ap}
 use borrow.Author.Needs.{needs}
-use Rattle.rules.specs.Codes.{Step, Kind, begin, try, read, write, known, unknown}
+use Rattle.rules.specs.Codes.{begin, try, read, write}
 use Rattle.steps.specs.Meaning.{kindIs}
+use Rattle.steps.proofs.OneStep.{no-step}
 use Rattle.register.proofs.Taking.{ready-for, takes-for, begin-any, try-any, read-any}
 use Rattle.register.proofs.take.take.Statement.{statement}
 use Rattle.register.proofs.take.take.Tie as tie
-
--- What is unknown stands for no step.
-no-step : {kind : Kind} (s : Step) → kind ≡ unknown → kind ≡ known s → ⊥
-no-step s e f = let z : _≡_ {A = ℕ} 0 1 = cc in omega arith
 
 pub take-spec : {M : Type 1} → statement M
 take-spec =

@@ -1,0 +1,165 @@
+-- The answer to a read and to a try, by what is asked of the handler's row and of the commits; and what is then to be noted.
+use Prim.Native.Nat.{ℕ, _+_, _*_, _<_}
+use native.Mathlib.Omega.{arith}
+use mathlib.Core.Path.{_≡_, refl, sym, ap, ap₂, _∙_}
+use mathlib.Core.Bool.{Bool, true, false, _||_}
+use mathlib.Core.List.{List}
+use lib.ListN.{getD}
+use borrow.Author.Tests.{lt-ltb}
+use Rattle.rules.specs.Tables.{if_then_else_, someBelow}
+use Rattle.rules.specs.Codes.{Step, try, read}
+use Rattle.rules.specs.Replies.{torn, overtaken, Outcome, value, committed, aborted}
+use Rattle.rules.specs.Register.{Setting}
+use Rattle.rules.specs.Checks.{firstHit}
+use Rattle.rules.specs.History.{Deed, Commit, History, hasRead, hasWritten, writer, everyCommit}
+use Rattle.rules.specs.Past.{tears}
+use Rattle.rules.specs.Replay.{replay}
+use Rattle.rules.specs.Judge.{copied, stale, orAborted, answerRead, answerTry, answer}
+use Rattle.rules.proofs.NeverSpent.{short-try}
+use Rattle.layout.specs.Places.{cellsOf, handlersOf}
+use Rattle.layout.specs.View.{wordSetting}
+use Rattle.ledger.specs.Entries.{Ledger, Entry, entryIn, withEntry, commitsNoted, mostCommits, handlerRow}
+use Rattle.ledger.specs.Histories.{deedsOf, commitsIn, historyIn}
+use Rattle.ledger.specs.Noting.{emptyEntry, readEntry, noteRead, noteOutcome, noteCommit}
+use Rattle.ledger.specs.Promises.{isCommit}
+use Rattle.ledger.proofs.Deeds.{hasSource, copies-at, reads-at, written-at}
+use Rattle.ledger.proofs.Commits.{commits-count}
+use Rattle.ledger.proofs.Notes.{now-is}
+use Rattle.judge.specs.Taking.{answerOf, Ready, Roomy, Takes}
+
+module _ (words : List ℕ) where
+  -- The rules over these words.
+  abbrev S : Setting ℕ
+  S = wordSetting (cellsOf words)
+
+  -- The commits that they note.
+  abbrev pub commits : List (Commit ℕ)
+  commits = commitsIn (cellsOf words) words (commitsNoted words)
+
+  -- The deeds that they note of handler i.
+  abbrev pub deeds : ℕ → List (Deed ℕ)
+  deeds i = deedsOf (entryIn words (handlerRow i)) (cellsOf words)
+
+  -- Handler i has read or written the cell x.
+  abbrev pub touched : ℕ → ℕ → Bool
+  touched i x = hasRead (deeds i) x || hasWritten (deeds i) x
+
+  -- The version of x that the commits leave is torn from what handler i has read.
+  abbrev pub isTorn : ℕ → ℕ → Bool
+  isTorn i x = tears (cellsOf words) commits (deeds i) (writer commits x)
+
+  -- Handler i has read a version that is not the present one.
+  abbrev pub isStale : ℕ → Bool
+  isStale i = someBelow (cellsOf words) (stale commits (deeds i))
+
+module _ {words : List ℕ} {i : ℕ} (ledger : Ledger words) (seat : i < handlersOf words) where
+  -- The answer to a read is asked of the row and of the commits,
+  read-asked : (x : ℕ) → answerOf words i (read x) ≡ answerRead (S words) (commits words) (deeds words i) x
+  unfolding answer historyIn
+  read-asked x = ap (λ (done : List (Deed ℕ)). answerRead (S words) (commits words) done x) (now-is ledger seat)
+
+  -- and so is the answer to a try: there are too few commits for abort 3.
+  pub try-asked : answerOf words i try ≡ (if isStale words i then (aborted overtaken) else committed)
+  unfolding answer historyIn
+  try-asked =
+      ap (answerTry (S words) (commits words)) (now-is ledger seat)
+      ∙ short-try (S words) (commits words) (deeds words i) (omega (arith, ledger .few, commits-count (cellsOf words) words (commitsNoted words)))
+
+module _ {words : List ℕ} {m i x : ℕ} (ready : Ready words m i (read x)) where
+  -- The row of the handler.
+  abbrev entry : Entry
+  entry = entryIn words (handlerRow i)
+
+  -- A cell that was read or written is answered with its copy,
+  answer-again : touched words i x ≡ true → answerOf words i (read x) ≡ value (entry .copies x)
+  unfolding answerRead
+  answer-again t = read-asked (ready .ledger) (ready .handler) x ∙ rw t (ap value copy)
+    where
+      noted : hasSource (entry .sources x) || entry .written x ≡ true
+      noted =
+          sym (ap₂ _||_ (reads-at entry (cellsOf words) x (ready .cell)) (written-at entry (cellsOf words) x (ready .cell))) ∙ t
+
+      copy : copied (S words) (deeds words i) x ≡ entry .copies x
+      copy = copies-at entry (S words) (cellsOf words) x ∙ rw (lt-ltb x (cellsOf words) (ready .cell), noted)
+
+  module _ (first : touched words i x ≡ false) where
+    -- a first read of another with abort 1 where it is torn,
+    answer-torn : isTorn words i x ≡ true → answerOf words i (read x) ≡ aborted torn
+    unfolding answerRead firstHit orAborted
+    answer-torn t = read-asked (ready .ledger) (ready .handler) x ∙ rw (first, t)
+
+    -- and else with the value of the present version.
+    answer-first : isTorn words i x ≡ false → answerOf words i (read x) ≡ value (replay (S words) (commits words) everyCommit x)
+    unfolding answerRead firstHit orAborted
+    answer-first t = read-asked (ready .ledger) (ready .handler) x ∙ rw (first, t)
+
+  -- What the history says of the cell is what the row says.
+  touched-is : hasRead (historyIn words .now i) x || hasWritten (historyIn words .now i) x ≡ touched words i x
+  touched-is = ap (λ done. hasRead done x || hasWritten done x) (now-is (ready .ledger) (ready .handler))
+
+  -- ── What is taken ───────────────────────────────────────────────────
+
+  -- A read that is answered with the copy leaves the words,
+  pub takes-again : touched words i x ≡ true → (v : ℕ) → Takes words i (read x) v (value (getD words ((1 + i) * 66 + (34 + x)) 0)) words
+  unfolding noteOutcome noteRead entryIn
+  takes-again t v = record { replied = sym (answer-again t); left = rw (answer-again t, touched-is ∙ t) }
+
+  -- one that is torn ends the transaction,
+  pub takes-torn : touched words i x ≡ false → isTorn words i x ≡ true → (v : ℕ) {after : List ℕ}
+      → after ≡ withEntry words (handlerRow i) (emptyEntry 0) → Takes words i (read x) v (aborted torn) after
+  unfolding noteOutcome
+  takes-torn first t v left = record { replied = sym (answer-torn first t); left = left ∙ rw (answer-torn first t) }
+
+  -- A first read of a cell not written is noted with the commit that wrote what it found.
+  first-noted : touched words i x ≡ false → (found : ℕ)
+      → noteRead words i x found ≡ withEntry words (handlerRow i) (readEntry entry x (writer (commits words) x) found)
+  unfolding noteRead historyIn
+  first-noted first found = rw (touched-is ∙ first)
+
+  -- and another is noted.
+  pub takes-first : touched words i x ≡ false → isTorn words i x ≡ false → (v place found : ℕ) {after : List ℕ}
+      → place ≡ writer (commits words) x → found ≡ replay (S words) (commits words) everyCommit x
+      → after ≡ withEntry words (handlerRow i) (readEntry entry x place found)
+      → Takes words i (read x) v (value found) after
+  unfolding noteOutcome
+  takes-first first t v place found wrote holds left = record {
+    replied = ap value holds ∙ sym (answer-first first t);
+    left = left ∙ ap₂ (λ (source value : ℕ). withEntry words (handlerRow i) (readEntry entry x source value)) wrote holds
+        ∙ sym (first-noted first (replay (S words) (commits words) everyCommit x)) ∙ rw (answer-first first t);
+  }
+
+module _ {words : List ℕ} {m i : ℕ} (ready : Ready words m i try) where
+  -- A try with a stale read ends the transaction,
+  pub takes-overtaken : isStale words i ≡ true → (v : ℕ) {after : List ℕ}
+      → after ≡ withEntry words (handlerRow i) (emptyEntry 0) → Takes words i try v (aborted overtaken) after
+  unfolding noteOutcome
+  takes-overtaken t v left =
+      let said : answerOf words i try ≡ aborted overtaken = try-asked (ready .ledger) (ready .handler) ∙ rw t in
+      record { replied = sym said; left = left ∙ rw said }
+
+  -- and one without commits.
+  pub takes-commit : isStale words i ≡ false → (v : ℕ) {after : List ℕ} → after ≡ noteCommit words i → Takes words i try v committed after
+  unfolding noteOutcome
+  takes-commit t v left =
+      let said : answerOf words i try ≡ committed = try-asked (ready .ledger) (ready .handler) ∙ rw t in
+      record { replied = sym said; left = left ∙ rw said }
+
+  -- If there is room for what a try comes to, there is room for its commit.
+  pub commit-room : Roomy words i try → isStale words i ≡ false → commitsNoted words < mostCommits
+  commit-room room t = room (ap isCommit (try-asked (ready .ledger) (ready .handler)) ∙ rw t)
+
+-- ── What was asked ────────────────────────────────────────────────────
+
+module _ {words : List ℕ} {m i : ℕ} {s : Step} (ready : Ready words m i s) {told : Bool} where
+  -- What was found stale of m cells is what the words' cells say,
+  pub stale-told : told ≡ someBelow m (stale (commitsIn m words (commitsNoted words)) (deedsOf (entryIn words (handlerRow i)) m))
+      → isStale words i ≡ told
+  stale-told e = sym (e ∙ ap (λ cells. someBelow cells (stale (commitsIn cells words (commitsNoted words))
+      (deedsOf (entryIn words (handlerRow i)) cells))) (ready .cells))
+
+  -- and so is what was found torn.
+  pub torn-told : (x : ℕ) {place : ℕ} → place ≡ writer (commits words) x
+      → told ≡ tears m (commitsIn m words (commitsNoted words)) (deedsOf (entryIn words (handlerRow i)) m) place → isTorn words i x ≡ told
+  torn-told x {place} wrote e =
+      ap (tears (cellsOf words) (commits words) (deeds words i)) (sym wrote)
+      ∙ sym (e ∙ ap (λ cells. tears cells (commitsIn cells words (commitsNoted words)) (deedsOf (entryIn words (handlerRow i)) cells) place) (ready .cells))

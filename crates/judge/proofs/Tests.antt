@@ -1,0 +1,104 @@
+-- What the judge reads off its words before a step.
+use Prim.Native.Nat.{ℕ, _+_, _*_, _≤_, _<_}
+use mathlib.Core.Path.{_≡_, refl, sym, ap, _∙_}
+use mathlib.Core.Bool.{Bool, true, false, not, _&&_, _||_, and-false}
+use mathlib.Core.List.{List}
+use lib.ListN.{length, getD}
+use lib.Dec.{eqb, leb}
+use borrow.Author.Tests.{lt-leb, le-leb}
+use Rattle.rules.specs.Tables.{if_then_else_}
+use Rattle.rules.specs.Codes.{Step, begin, try, read, write}
+use Rattle.rules.specs.Replies.{overtaken, Outcome, committed, aborted}
+use Rattle.rules.specs.Checks.{inRange, firstHit}
+use Rattle.rules.specs.Register.{Setting}
+use Rattle.rules.specs.History.{Deed, Commit, hasRead, hasWritten, writer}
+use Rattle.rules.specs.Past.{tears}
+use Rattle.rules.specs.Judge.{orAborted, answerRead, answer}
+use Rattle.rules.proofs.Tables.{by}
+use Rattle.layout.specs.Places.{cellsOf, handlersOf}
+use Rattle.layout.specs.View.{wordSetting}
+use Rattle.layout.proofs.Rows.{below-beyond}
+use Rattle.ledger.specs.Entries.{ledgerLong, mostCommits, commitsNoted, Ledger, isLedger, handlerRow, entryIn}
+use Rattle.ledger.specs.Histories.{isOpen, historyIn}
+use Rattle.ledger.specs.Promises.{isCommit}
+use Rattle.ledger.proofs.Notes.{opened-is}
+use Rattle.judge.specs.Taking.{answerOf}
+use Rattle.judge.proofs.Answers.{isStale, try-asked}
+
+-- ── A ledger ──────────────────────────────────────────────────────────
+
+-- Words that are too few are no ledger,
+pub ledger-short : (words : List ℕ) → length words < ledgerLong → false ≡ isLedger words
+unfolding isLedger
+ledger-short words short = rw (lt-leb ledgerLong (length words) short)
+
+module _ (words : List ℕ) (long : ledgerLong ≤ length words) where
+  -- nor are words with m or n out of range,
+  pub ledger-out : inRange (cellsOf words) (handlersOf words) ≡ false → false ≡ isLedger words
+  unfolding isLedger
+  ledger-out out = rw (le-leb ledgerLong (length words) long, out)
+
+  -- and else the number of commits decides.
+  pub ledger-counted : inRange (cellsOf words) (handlersOf words) ≡ true → leb (commitsNoted words) mostCommits ≡ isLedger words
+  unfolding isLedger
+  ledger-counted ranged = rw (le-leb ledgerLong (length words) long, ranged)
+
+-- ── An open handler ───────────────────────────────────────────────────
+
+-- Beyond the handlers none is open,
+pub beyond-idle : (words : List ℕ) (handler : ℕ) → handlersOf words ≤ handler → false ≡ historyIn words .opened handler
+unfolding historyIn
+beyond-idle words handler outside =
+    sym (below-beyond (handlersOf words) false (λ i. isOpen (entryIn words (handlerRow i))) handler outside)
+
+-- and of each the first word of its row says it.
+pub phase-told : {words : List ℕ} {handler : ℕ} → Ledger words → handler < handlersOf words
+    → not (eqb (getD words ((1 + handler) * 66) 0) 0) ≡ historyIn words .opened handler
+unfolding entryIn
+phase-told ledger seat = sym (opened-is ledger seat)
+
+-- ── One commit too many ───────────────────────────────────────────────
+
+-- No read commits.
+read-no-commit : (S : Setting ℕ) (commits : List (Commit ℕ)) (deeds : List (Deed ℕ)) (x : ℕ)
+    → isCommit (answerRead S commits deeds x) ≡ false
+unfolding answerRead firstHit orAborted
+read-no-commit S commits deeds x = by (hasRead deeds x || hasWritten deeds x) (λ e. rw e)
+    (λ e. rw e (by (tears (S .cellCount) commits deeds (writer commits x)) (λ t. rw t) (λ t. rw t)))
+
+module _ (words : List ℕ) (i : ℕ) where
+  -- The step would be one commit more than can be noted.
+  abbrev pub tooMany : Step → Bool
+  tooMany s = leb mostCommits (commitsNoted words) && isCommit (answerOf words i s)
+
+  -- With room no step is,
+  pub room-left : commitsNoted words < mostCommits → (s : Step) → false ≡ tooMany s
+  room-left room s = rw (lt-leb mostCommits (commitsNoted words) room)
+
+  -- nor is one that does not commit,
+  passes : (s : Step) → isCommit (answerOf words i s) ≡ false → false ≡ tooMany s
+  passes s e = rw (e, and-false (leb mostCommits (commitsNoted words)))
+
+  -- as a begin,
+  pub begin-passes : false ≡ tooMany begin
+  unfolding answer
+  begin-passes = passes begin refl
+
+  -- a write
+  pub write-passes : (x : ℕ) → false ≡ tooMany (write x)
+  unfolding answer
+  write-passes x = passes (write x) refl
+
+  -- and a read;
+  pub read-passes : (x : ℕ) → false ≡ tooMany (read x)
+  unfolding answer
+  read-passes x = passes (read x) (read-no-commit (wordSetting (cellsOf words)) (historyIn words .commits) (historyIn words .now i) x)
+
+  -- without room a try is, unless a read is stale.
+  pub try-too-many : {told : Bool} → Ledger words → i < handlersOf words → mostCommits ≤ commitsNoted words → isStale words i ≡ told
+      → not told ≡ tooMany try
+  try-too-many {told} ledger seat full said = rw (try-asked ledger seat, said, le-leb mostCommits (commitsNoted words) full) (commits-unless told)
+    where
+      commits-unless : (told : Bool) → not told ≡ isCommit (if told then (aborted overtaken) else committed)
+      commits-unless true = refl
+      commits-unless false = refl
