@@ -2,3 +2,6 @@
 pub mod Answers
 pub mod Tests
 pub mod Passing
+pub mod Stepping
+pub mod Opening
+pub mod Ends

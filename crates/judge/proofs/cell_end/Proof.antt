@@ -1,58 +1,29 @@
+-- `judge::cell_end` meets its promise: the value of the cell's present version, and how many commits wrote it.
+use mathlib.Core.Path.{_≡_, sym, _∙_}
+use native.Mathlib.Omega.{arith}
 use borrow.Author.Needs.{needs}
+use borrow.Author.Tests.{not-true, not-false}
+use Rattle.ledger.specs.Entries.{Ledger}
+use Rattle.ledger.proofs.Tested.{tested}
+use Rattle.judge.proofs.Ends.{no-end, end-beyond, end-shown}
 use Rattle.judge.proofs.cell_end.Statement.{statement}
 use Rattle.judge.proofs.cell_end.Tie as tie
-use Rattle.judge.proofs.cell_end.Reads as reads
-use Rattle.judge.proofs.cell_end.Lts as lts
-use Rattle.answers.proofs.present_value.Reads as present-value-reads
-use Rattle.answers.proofs.versions_of.Reads as versions-of-reads
-use Rattle.judge.proofs.reading.is_ledger.Reads as is-ledger-reads
 
--- src/lib.rt:64:9
-is-ledger-requires : tie.Need-is-ledger-requires
-is-ledger-requires c κs = search needs
-
--- src/lib.rt:65:9
-returns : tie.Need-returns
-returns c = ?
-
--- src/lib.rt:67:8
-shared-slice-read-if2 : tie.Need-shared-slice-read-if2
-shared-slice-read-if2 c = ?
-
--- src/lib.rt:68:9
-returns-2 : tie.Need-returns-2
-returns-2 c = ?
-
--- src/lib.rt:71:17
-shared-slice-read-count : tie.Need-shared-slice-read-count
-shared-slice-read-count c = ?
-
--- src/lib.rt:71:17
-cast-count : tie.Need-cast-count
-cast-count c = ?
-
--- src/lib.rt:73:16
-present-value-requires : tie.Need-present-value-requires
-present-value-requires c κs = ?
-
--- src/lib.rt:74:17
-versions-of-requires : tie.Need-versions-of-requires
-versions-of-requires c κs = ?
-
--- src/lib.rt:61:1
-returns-3 : tie.Need-returns-3
-returns-3 c = ?
+-- The words are a ledger.
+ledger : (c : tie.Else1) → Ledger (c .before .before .before .args .words .now)
+ledger c = tested _ .0 (sym (c .before .is-ledger .ensures) ∙ not-false _ (c .if1 .left))
 
 pub cell-end-spec : {M : Type 1} → statement M
 cell-end-spec =
     tie.close
     (tie.spec
-    is-ledger-requires
-    returns
-    shared-slice-read-if2
-    returns-2
-    shared-slice-read-count
-    cast-count
-    present-value-requires
-    versions-of-requires
-    returns-3)
+    (λ c κs. search needs)
+    (λ c. no-end _ _ (sym (c .before .is-ledger .ensures) ∙ not-true _ (c .if1 .taken)))
+    (λ c. omega (arith, ledger (c .before) .long))
+    (λ c. end-beyond _ _ (omega arith))
+    (λ c. omega (arith, ledger (c .before .before .before) .long))
+    (λ c. omega (arith, ledger (c .before .before .before) .few))
+    (λ c κs. let kept = ledger (c .before .before .before) in omega (arith, kept .long, kept .range .cells, kept .few))
+    (λ c κs. let kept = ledger (c .before .before .before .before) in omega (arith, kept .long, kept .range .cells, kept .few))
+    (λ c. let kept = ledger (c .before .before .before .before .before) in
+    end-shown kept (omega arith) (c .before .present-value .ensures _ (omega arith)) (c .versions-of .ensures _ (omega arith))))

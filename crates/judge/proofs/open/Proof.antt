@@ -1,52 +1,36 @@
+-- `judge::open` meets its promise: 20, 21, or a fresh ledger in front of the words.
+use mathlib.Core.Path.{_≡_, sym, _∙_}
+use mathlib.Core.Bool.{true}
+use native.Mathlib.Omega.{arith}
+use lib.ListN.{length-set}
 use borrow.Author.Needs.{needs}
+use borrow.Author.Tests.{not-true, not-false}
+use mathlib.Core.Bool.{true≢false}
+use Rattle.rules.specs.Replies.{outOfRange, tooShort}
+use Rattle.rules.specs.Checks.{inRange}
+use Rattle.rules.proofs.Tables.{both-ways}
+use Rattle.rules.proofs.Given.{range-tested}
+use Rattle.judge.proofs.Opening.{ledger-stops, ledger-opens}
 use Rattle.judge.proofs.open.Statement.{statement}
 use Rattle.judge.proofs.open.Tie as tie
-use Rattle.judge.proofs.open.Reads as reads
-use Rattle.judge.proofs.open.Lts as lts
-use Rattle.formed.proofs.in_range.Reads as in-range-reads
-use Rattle.words.proofs.clear.Reads as clear-reads
 
--- src/lib.rt:32:9
-in-range-requires : tie.Need-in-range-requires
-in-range-requires c κs = search needs
-
--- src/lib.rt:33:9
-returns : tie.Need-returns
-returns c = ?
-
--- src/lib.rt:36:9
-returns-2 : tie.Need-returns-2
-returns-2 c = ?
-
--- src/lib.rt:38:5
-clear-requires : tie.Need-clear-requires
-clear-requires c κs = search needs
-
--- src/lib.rt:39:5
-slice-write-words : tie.Need-slice-write-words
-slice-write-words c = search needs
-
--- src/lib.rt:40:5
-slice-write-words-2 : tie.Need-slice-write-words-2
-slice-write-words-2 c = ?
-
--- src/lib.rt:29:1
-same-length : tie.Need-same-length
-same-length c = search needs
-
--- src/lib.rt:29:1
-returns-3 : tie.Need-returns-3
-returns-3 c = ?
+-- m and n are in range.
+ranged : (c : tie.Else1) → inRange (c .before .before .before .args .m) (c .before .before .before .args .n) ≡ true
+ranged c = sym (c .before .in-range .ensures) ∙ not-false _ (c .if1 .left)
 
 pub open-spec : {M : Type 1} → statement M
 open-spec =
     tie.close
     (tie.spec
-    in-range-requires
-    returns
-    returns-2
-    clear-requires
-    slice-write-words
-    slice-write-words-2
-    same-length
-    returns-3)
+    (λ c κs. search needs)
+    -- 20
+    (λ c. ledger-stops _ _ _ outOfRange (λ inside. both-ways (range-tested _ _ .1 inside) (sym (c .before .in-range .ensures) ∙ not-true _ (c .if1 .taken))))
+    -- 21
+    (λ c. ledger-stops _ _ _ tooShort (range-tested _ _ .0 (ranged (c .before)), omega arith))
+    -- cleared, with m and n in front
+    (λ c κs. search needs)
+    (λ c. search needs)
+    (λ c. simp length-set (omega (arith, c .before .before .clear .ensures .untouched .size)))
+    (λ c. search needs)
+    (λ c. let inside = c .before .before .before .before in
+    ledger-opens _ _ _ _ (omega (arith, inside .if2 .left)) (c .before .before .clear .ensures) (ranged (inside .before))))

@@ -1,95 +1,57 @@
+-- `judge::step` meets its promise: 10, or what the checks refuse, or what passes.
+use mathlib.Core.Path.{_≡_, sym, ap, _∙_}
+use mathlib.Core.Option.{none}
+use native.Mathlib.Omega.{arith}
 use borrow.Author.Needs.{needs}
+use borrow.Author.Tests.{not-true, not-false}
+use Rattle.steps.specs.Meaning.{verdictIs}
+use Rattle.ledger.specs.Entries.{Ledger}
+use Rattle.ledger.proofs.Tested.{tested}
+use Rattle.judge.proofs.Stepping.{step-malformed, says, asked-plainly, step-stops, step-ready, step-passes}
 use Rattle.judge.proofs.step.Statement.{statement}
 use Rattle.judge.proofs.step.Tie as tie
-use Rattle.judge.proofs.step.Reads as reads
-use Rattle.judge.proofs.step.Lts as lts
-use Rattle.judge.proofs.reading.is_ledger.Reads as is-ledger-reads
-use Rattle.judge.proofs.reading.is_open.Reads as is-open-reads
-use Rattle.judge.proofs.taking.pass.Reads as pass-reads
-use Rattle.steps.proofs.kind_of.Reads as kind-of-reads
-use Rattle.steps.proofs.verdict_of.Reads as verdict-of-reads
 
--- src/lib.rt:48:9
-is-ledger-requires : tie.Need-is-ledger-requires
-is-ledger-requires c κs = search needs
+-- The words are a ledger.
+ledger : (c : tie.Else1) → Ledger (c .before .before .before .before .args .words .now)
+ledger c = tested _ .0 (sym (c .before .is-ledger .ensures) ∙ not-false _ (c .if1 .left))
 
--- src/lib.rt:49:9
-same-length : tie.Need-same-length
-same-length c = search needs
+-- The verdict is what the checks say by the history.
+said : (c : tie.After-verdict-of) → let args = c .before .before .before .before .before .before .before .before .before .before .args in
+    verdictIs (c .verdict-of .result) ≡ says (args .words .now) (args .handler) (args .code)
+said c =
+    let opened = c .before .before .before in
+    let args = opened .before .before .before .before .before .before .before .args in
+    c .verdict-of .ensures ∙ asked-plainly (args .words .now) (args .handler) (args .code) (opened .before .before .kind-of .ensures) (opened .is-open .ensures)
 
--- src/lib.rt:49:9
-returns : tie.Need-returns
-returns c = ?
-
--- src/lib.rt:51:9
-kind-of-requires : tie.Need-kind-of-requires
-kind-of-requires c κs = search needs
-
--- src/lib.rt:52:9
-is-open-requires : tie.Need-is-open-requires
-is-open-requires c κs = ?
-
--- src/lib.rt:53:37
-slice-read-verdict-of : tie.Need-slice-read-verdict-of
-slice-read-verdict-of c = ?
-
--- src/lib.rt:53:37
-cast-verdict-of : tie.Need-cast-verdict-of
-cast-verdict-of c = ?
-
--- src/lib.rt:53:56
-slice-read-verdict-of-2 : tie.Need-slice-read-verdict-of-2
-slice-read-verdict-of-2 c = ?
-
--- src/lib.rt:53:9
-verdict-of-requires : tie.Need-verdict-of-requires
-verdict-of-requires c κs = search needs
-
--- src/lib.rt:55:26
-enum-known-verdict : tie.Need-enum-known-verdict
-enum-known-verdict c = search needs
-
--- src/lib.rt:56:33
-enum-told : tie.Need-enum-told
-enum-told c = search needs
-
--- src/lib.rt:56:28
-pass-requires : tie.Need-pass-requires
-pass-requires c κs = ?
-
--- src/lib.rt:45:1
-same-length-2 : tie.Need-same-length-2
-same-length-2 c = search needs
-
--- src/lib.rt:45:1
-returns-2 : tie.Need-returns-2
-returns-2 c = ?
-
--- src/lib.rt:45:1
-same-length-3 : tie.Need-same-length-3
-same-length-3 c = search needs
-
--- src/lib.rt:45:1
-returns-3 : tie.Need-returns-3
-returns-3 c = ?
+-- The checks let the step through.
+passes : (c : tie.After-enum-told) → let args = c .before .before .before .before .before .before .before .before .before .before .before .before .args in says (args .words .now) (args .handler) (args .code) ≡ none
+passes c = sym (said (c .before .before)) ∙ ap verdictIs (c .enum-told .given .1)
 
 pub step-spec : {M : Type 1} → statement M
 step-spec =
     tie.close
     (tie.spec
-    is-ledger-requires
-    same-length
-    returns
-    kind-of-requires
-    is-open-requires
-    slice-read-verdict-of
-    cast-verdict-of
-    slice-read-verdict-of-2
-    verdict-of-requires
-    enum-known-verdict
-    enum-told
-    pass-requires
-    same-length-2
-    returns-2
-    same-length-3
-    returns-3)
+    (λ c κs. search needs)
+    (λ c. search needs)
+    -- 10
+    (λ c. step-malformed _ _ _ _ (sym (c .before .is-ledger .ensures) ∙ not-true _ (c .if1 .taken)))
+    (λ c κs. search needs)
+    (λ c κs. ledger (c .before .before))
+    (λ c. omega (arith, ledger (c .before .before .before .before) .long))
+    (λ c. omega (arith, ledger (c .before .before .before .before) .range .cells))
+    (λ c. omega (arith, ledger (c .before .before .before .before .before) .long))
+    (λ c κs. search needs)
+    (λ c. search needs)
+    (λ c. search needs)
+    (λ c κs. let kept = c .before .before .before .before .before .before .before .before .before in
+    let args = kept .before .before .before .before .args in
+    let (s, asks, ready) = step-ready (args .words .now) (args .handler) (args .code) (args .value) (ledger kept) (passes (c .before)) in
+    (s, c .before .before .before .before .before .before .before .before .kind-of .ensures ∙ asks, ready))
+    (λ c. search needs)
+    -- refused
+    (λ c. step-stops _ _ _ _ (ledger (c .before .before .before .before .before .before .before .before .before)) _ (sym (said (c .before .before .before)) ∙ ap verdictIs (c .before .verdict .given .1)))
+    (λ c. search needs)
+    -- passed
+    (λ c. let told = c .before .before .before .before in
+    let kind = told .before .before .before .before .before .before .before in
+    step-passes _ _ _ _ (ledger (kind .before)) (passes told) (λ s asks. c .before .before .pass .ensures s (kind .kind-of .ensures ∙ asks))))

@@ -31,7 +31,8 @@ is-too-many-spec =
       omega (arith, ready .ledger .long),
       omega (arith, ready .cells, ready .ledger .range .cells),
       omega (arith, ready .handler, ready .ledger .range .handlers),
-      omega (arith, ready .ledger .few)))
+      omega (arith, ready .ledger .few),
+    ))
     (λ c. search needs)
     (λ c. search needs)
     (λ c. search needs)
@@ -42,7 +43,12 @@ is-too-many-spec =
     for-kind (λ s. not (c .is-stale .result) ≡ tooMany (start .args .words .now) (start .args .i) s) try (ap kindIs (c .before .enum-told .given .1))
     (try-too-many _ _ (ready .ledger) (ready .handler) (omega (arith, c .before .before .before .if1 .left)) (stale-told ready (c .is-stale .ensures))))
     -- a begin, a read, a write
-    (λ c. passing _ _ begin (ap kindIs (c .enum-told2 .given .1)) (begin-passes _ _))
-    (λ c. passing _ _ (read _) (ap kindIs (c .enum-told3 .given .1)) (read-passes _ _ _))
-    (λ c. passing _ _ (write _) (ap kindIs (c .enum-told4 .given .1)) (write-passes _ _ _))
+    (λ c. let args = c .before .before .before .before .before .args in
+    passing (args .words .now) (args .i) begin (ap kindIs (c .enum-told2 .given .1)) (begin-passes (args .words .now) (args .i)))
+    (λ c. let args = c .before .before .before .before .before .args in
+    let x = c .enum-told3 .given .0 .0 in
+    passing (args .words .now) (args .i) (read x) (ap kindIs (c .enum-told3 .given .1)) (read-passes (args .words .now) (args .i) x))
+    (λ c. let args = c .before .before .before .before .before .args in
+    let x = c .enum-told4 .given .0 .0 in
+    passing (args .words .now) (args .i) (write x) (ap kindIs (c .enum-told4 .given .1)) (write-passes (args .words .now) (args .i) x))
     (λ c s e. absurd (no-step s (ap kindIs (c .enum-told5 .given .1)) e)))

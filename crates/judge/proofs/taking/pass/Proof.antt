@@ -18,15 +18,16 @@ pub pass-spec : {M : Type 1} → statement M
 pass-spec =
     tie.close
     (tie.spec
-    (λ c. omega (arith, c .before .pre .2 .ledger .long))
+    (λ c. omega (arith, c .before .before .pre .2 .ledger .long))
     (λ c. search needs)
     (λ c κs. search needs)
     (λ c. search needs)
     -- 33
     (λ c s e. pass-stops _ _ s (asked (c .before) s e ∙ c .if1 .taken))
     (λ c κs. let told = c .before in
-    let (s, e, ready) = told .before .before .before .before .before .pre in
-    (s, e, record { ready = ready; room = has-room _ _ s (asked (told .before) s e ∙ told .if1 .left) }))
+    let start = told .before .before .before .before .before in
+    let (s, e, ready) = start .pre in
+    (s, e, record { ready = ready; room = has-room (start .args .words .now) (start .args .handler) s (asked (told .before) s e ∙ told .if1 .left) }))
     (λ c. search needs)
     -- reported
     (λ c s e. let told = c .before .before .before .before in

@@ -45,10 +45,15 @@ read-spec =
     (λ c κs. search needs)
     (λ c κs. let wrote = c .before .before .before .before .before .before in
     let start = wrote .before .before .before .before .before .before .before in
-    let pre = start .pre in
-    ((omega (arith, pre .handler, pre .ledger .range .handlers), omega (arith, pre .ledger .long),
-    omega (arith, pre .cell, pre .ledger .range .cells), omega (arith, wrote .writer-of .ensures .1, pre .ledger .few)),
-    wrote .before .before .before .before .before .before .slice-known .given _ .fits))
+    let pre = start .pre in (
+      (
+        omega (arith, pre .handler, pre .ledger .range .handlers),
+        omega (arith, pre .ledger .long),
+        omega (arith, pre .cell, pre .ledger .range .cells),
+        omega (arith, wrote .writer-of .ensures .1, pre .ledger .few),
+      ),
+      wrote .before .before .before .before .before .before .slice-known .given _ .fits,
+    ))
     (λ c. search needs)
     -- the value
     (λ c v. let told = c .before .before .before .before .before .before in

@@ -1,0 +1,45 @@
+-- What the judge shows of a cell, by its ways; and that any two ends that its promise allows are equal.
+use Prim.Native.Nat.{ℕ, _≤_, _<_}
+use mathlib.Core.Path.{_≡_, sym, ap, ap₂, _∙_}
+use mathlib.Core.Bool.{true, false, and-false}
+use mathlib.Core.List.{List}
+use mathlib.Core.Option.{none, some}
+use borrow.Author.Tests.{lt-ltb, le-ltb}
+use Rattle.rules.specs.Tables.{if_then_else_}
+use Rattle.rules.specs.History.{everyCommit}
+use Rattle.rules.specs.Replay.{replay}
+use Rattle.rules.specs.Judge.{versionCount}
+use Rattle.layout.specs.Places.{cellsOf}
+use Rattle.layout.specs.View.{wordSetting}
+use Rattle.schedule.specs.Shown.{CellLine, endIs}
+use Rattle.schedule.specs.declared.End.{End}
+use Rattle.schedule.proofs.ShownApart.{ends-apart}
+use Rattle.ledger.specs.Entries.{commitsNoted, Ledger, isLedger}
+use Rattle.ledger.specs.Histories.{commitsIn, historyIn}
+use Rattle.ledger.proofs.Tested.{tested}
+use Rattle.judge.specs.Ending.{judgedEnd, JudgedEndPromise}
+
+-- Words that are no ledger show nothing,
+pub no-end : (words : List ℕ) (c : ℕ) → isLedger words ≡ false → JudgedEndPromise words c none
+unfolding judgedEnd
+no-end words c e = record { replied = rw e }
+
+-- nor does a cell beyond,
+pub end-beyond : (words : List ℕ) (c : ℕ) → cellsOf words ≤ c → JudgedEndPromise words c none
+unfolding judgedEnd
+end-beyond words c outside = record { replied = rw (le-ltb c (cellsOf words) outside, and-false (isLedger words)) }
+
+-- and another shows its value and how many commits wrote it.
+pub end-shown : {words : List ℕ} {c value number : ℕ} → Ledger words → c < cellsOf words
+    → value ≡ replay (wordSetting (cellsOf words)) (commitsIn (cellsOf words) words (commitsNoted words)) everyCommit c
+    → number ≡ versionCount (commitsIn (cellsOf words) words (commitsNoted words)) c
+    → JudgedEndPromise words c (some (record { value = value; number = number }))
+unfolding judgedEnd historyIn
+end-shown {words} {c} ledger inside holds counted = record {
+  replied = rw (tested words .1 ledger, lt-ltb c (cellsOf words) inside)
+      (ap₂ (λ (v k : ℕ). some (let line : CellLine = record { value = v; number = k } in line)) holds counted);
+}
+
+-- A cell has one end.
+pub end-determined : {words : List ℕ} {c : ℕ} {a b : End} → JudgedEndPromise words c (endIs a) → JudgedEndPromise words c (endIs b) → a ≡ b
+end-determined p q = ends-apart _ _ (p .replied ∙ sym (q .replied))
