@@ -1,15 +1,14 @@
 -- On every schedule that is not refused, the judge's lines are the runner's up to a 65th commit: there stands 33, and nothing comes
 -- after. If there is none, the judge shows the same cells at the end.
-use Prim.Native.Nat.{ℕ, _-_, _<_}
+use Prim.Native.Nat.{ℕ, zero, suc, _<_}
 use mathlib.Core.Path.{_≡_}
-use mathlib.Core.Bool.{Bool, true, false, _||_}
+use mathlib.Core.Bool.{Bool, false, _||_}
 use mathlib.Core.List.{List, [], _∷_}
 use mathlib.Core.Option.{some}
 use lib.ListN.{length}
-use lib.Dec.{eqb}
+use lib.Dec.{eqb, ltb}
 use Rattle.rules.specs.Tables.{if_then_else_, isFound}
 use Rattle.rules.specs.Replies.{tooManyCommits, refusalNumber, Reply, reported, ready}
-use Rattle.ledger.specs.Entries.{mostCommits}
 use Rattle.ledger.specs.Promises.{reportsCommit, LedgerPromise}
 use Rattle.schedule.specs.Sound.{orderIn}
 use Rattle.schedule.specs.Taking.{atStart}
@@ -28,9 +27,14 @@ tooMany line = record { place = line .place; handler = line .handler; code = lin
 -- The lines up to a commit for which there is no room: there stands 33, and nothing comes after.
 unfoldable pub cutAfter : ℕ → List Line → List Line
 cutAfter room [] = []
-cutAfter room (line ∷ lines) =
-    let later = if eqb room 0 then (tooMany line ∷ []) else (line ∷ cutAfter (room - 1) lines) in
-    if reportsCommit (line .reply) then later else (line ∷ cutAfter room lines)
+cutAfter zero (line ∷ lines) = if reportsCommit (line .reply) then (tooMany line ∷ []) else (line ∷ cutAfter zero lines)
+cutAfter (suc room) (line ∷ lines) =
+    line ∷ (if reportsCommit (line .reply) then (cutAfter room lines) else (cutAfter (suc room) lines))
+
+-- How many commits the lines report.
+unfoldable pub commitsAmong : List Line → ℕ
+commitsAmong [] = 0
+commitsAmong (line ∷ lines) = if reportsCommit (line .reply) then (suc (commitsAmong lines)) else (commitsAmong lines)
 
 -- ── The judge's lines ─────────────────────────────────────────────────
 
@@ -62,8 +66,10 @@ judgedFrom file words = placesFrom theJudge file (length (orderIn file)) atStart
 -- A judged run and the runner's run of m cells:
 pub record Agree (m : ℕ) (judged : WordRun) (run : Run) : Type 0 where
   -- the judge's lines, up to the one at which it stops, are the runner's, cut at a 65th commit;
-  pub lines : untilStop (judged .lines) ≡ cutAfter mostCommits (run .lines)
-  -- where it stops at none, it shows each cell as the runner does
+  pub lines : untilStop (judged .lines) ≡ cutAfter 64 (run .lines)
+  -- it stops exactly when the runner reports more than 64 commits;
+  pub stopped : everStops (judged .lines) ≡ ltb 64 (commitsAmong (run .lines))
+  -- where it stops at no line, it shows each cell as the runner does
   pub cells : everStops (judged .lines) ≡ false → (c : ℕ) → c < m
       → judgedEnd (judged .words) c ≡ some (cellLine c (run .register .cells c))
 

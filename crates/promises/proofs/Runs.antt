@@ -114,7 +114,7 @@ goes-on {m} {n} {done} ran (a ∷ asks) = subst (Ran m n) (append-assoc done (a 
     (goes-on (stepped a ran (record { replied = refl; left = refl })) asks)
 
 -- Words that are long enough, with m and n in range, are opened and ready.
-opens : (words : List ℕ) (m n : ℕ) → InRange m n → size m n ≤ length words
+pub opens : (words : List ℕ) (m n : ℕ) → InRange m n → size m n ≤ length words
     → OpeningPromise words m n ready (holding words m n (fresh (wordSetting m)))
 unfolding openingRefusal openingChecks firstHit openingReply openingWords
 opens words m n ranged fits = record { replied = rw passes; left = rw passes }
