@@ -1,1 +1,2 @@
 -- The laws of a judged run.
+pub mod Tight

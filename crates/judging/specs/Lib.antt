@@ -1,2 +1,3 @@
--- What answers in a judged run.
+-- What answers in a judged run, and where it stops.
 pub mod Player
+pub mod Stopping
