@@ -15,7 +15,7 @@ use Rattle.schedule.specs.Lines.{theRegister, WordRun, inFront, lineFor, wordsF
 use Rattle.judging.specs.Player.{theJudge}
 use Rattle.agreement.specs.Agreement.{tooMany, stops, everStops}
 use Rattle.agreement.proofs.Cut.{Cut, none, other, commit, full}
-use Rattle.agreement.proofs.Beside.{Beside, Room, register-other, judge-full, judge-commit, judge-other}
+use Rattle.agreement.proofs.Beside.{Beside, Room, register-other, judge-full, judge-with-room, judge-other}
 use Rattle.agreement.proofs.Beside.{beside-after, room-committed, room-kept}
 
 -- A judged run alongside the register's: the lines with room for so many commits, and the words beside each other where the judge
@@ -81,7 +81,7 @@ module _ {m n : ℕ} {words ledger : List ℕ} (beside : Beside m n words ledger
     unfolding lineFor wordsFor
     commit-alongside zero has reports later = rw (judge-full beside handler step has reports) (full-front line refl reports)
     commit-alongside (suc room) has reports later =
-        let alike = judge-commit beside handler step room has in
+        let alike = judge-with-room beside handler step room has in
         let left = room-committed beside handler step alike room reports has in
         rw alike (commit-front line (register-other beside handler step) reports (later room (beside-after beside handler step alike) left))
 

@@ -70,17 +70,17 @@ module _ {m n : ℕ} {words ledger : List ℕ} (beside : Beside m n words ledger
   unfolding limited
   judge-full has reports = within ∙ rw (le-leb mostCommits (commitsNoted ledger) (omega (arith, has)), reports)
 
-  -- A commit with room gets the same reply,
-  pub judge-commit : (room : ℕ) → Room (suc room) ledger → theJudge .reply ledger i step ≡ reply
+  -- Where there is room, the judge's reply is the same,
+  pub judge-with-room : (room : ℕ) → Room (suc room) ledger → theJudge .reply ledger i step ≡ reply
   unfolding limited
-  judge-commit room has = within ∙ rw (lt-leb mostCommits (commitsNoted ledger) (omega (arith, has)))
+  judge-with-room room has = within ∙ rw (lt-leb mostCommits (commitsNoted ledger) (omega (arith, has)))
 
-  -- and so does all that is no commit.
+  -- and so it is to all that is no commit.
   pub judge-other : reportsCommit reply ≡ false → theJudge .reply ledger i step ≡ reply
   judge-other reports = within ∙ limited-other (commitsNoted ledger) reply reports
 
   module _ (alike : theJudge .reply ledger i step ≡ reply) where
-    -- After the same reply they stand beside each other,
+    -- After the same reply they stand beside each other;
     pub beside-after : Beside m n (theRegister .after words i step) (theJudge .after ledger i step)
     beside-after = record {
       asks = _;
@@ -106,13 +106,13 @@ module _ {m n : ℕ} {words ledger : List ℕ} (beside : Beside m n words ledger
     counts-after : commitsNoted (theJudge .after ledger i step) ≡ counted (commitsNoted ledger) reply
     counts-after = judge-counts (beside .kept) i (step .code) (step .value) ∙ ap (counted (commitsNoted ledger)) alike
 
-    -- and room for one less then,
+    -- and then room for one less,
     pub room-committed : (room : ℕ) → reportsCommit reply ≡ true → Room (suc room) ledger → Room room (theJudge .after ledger i step)
     room-committed room reports has =
         let one-more : commitsNoted (theJudge .after ledger i step) ≡ suc (commitsNoted ledger) = counts-after ∙ rw reports in
         omega (arith, has, one-more)
 
-    -- or for as many.
+    -- and else for as many.
     pub room-kept : (room : ℕ) → reportsCommit reply ≡ false → Room room ledger → Room room (theJudge .after ledger i step)
     room-kept room reports has =
         let as-many : commitsNoted (theJudge .after ledger i step) ≡ commitsNoted ledger = counts-after ∙ rw reports in

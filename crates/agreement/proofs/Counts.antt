@@ -1,5 +1,5 @@
--- What a reply that the history tells comes to for the count of commits: a reported commit is one more, and nothing else is. The rules
--- alone never say 33.
+-- What the rules say is never 33; and after each reply of the judge there is one commit more where it reports one, and else there are
+-- as many.
 use Prim.Native.Nat.{ℕ, suc}
 use mathlib.Core.Path.{_≡_, refl, sym, ap, _∙_, subst}
 use mathlib.Core.Bool.{false}

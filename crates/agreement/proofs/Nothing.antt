@@ -1,5 +1,5 @@
 -- Of a file that is refused with 30 no place is played, whoever answers its steps: no line is shown, and no word is changed. A file that
--- is refused with 15 has places that can be played, and only its judgement keeps them from it.
+-- is refused with 15 has places that could be played: nothing is shown of it because it is judged before its first step.
 use Prim.Native.Nat.{ℕ, zero, suc, _+_}
 use mathlib.Core.Path.{_≡_, refl, sym}
 use mathlib.Core.Bool.{false}
