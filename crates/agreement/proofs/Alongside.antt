@@ -13,7 +13,8 @@ use Rattle.schedule.specs.Taking.{Cursors, Next, rejected, over, refused, taken
 use Rattle.schedule.specs.Runs.{Line, noStep, stepLine}
 use Rattle.schedule.specs.Lines.{theRegister, WordRun, inFront, lineFor, wordsFor, placesFrom}
 use Rattle.judging.specs.Player.{theJudge}
-use Rattle.agreement.specs.Agreement.{tooMany, stops, everStops}
+use Rattle.agreement.specs.Agreement.{tooMany, everStops}
+use Rattle.judging.specs.Stopping.{stops}
 use Rattle.agreement.proofs.Cut.{Cut, none, other, commit, full}
 use Rattle.agreement.proofs.Beside.{Beside, Room, register-other, judge-full, judge-with-room, judge-other}
 use Rattle.agreement.proofs.Beside.{beside-after, room-committed, room-kept}

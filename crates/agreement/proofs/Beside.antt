@@ -26,7 +26,7 @@ use Rattle.ledger.proofs.Steps.{limited-other, reply-limited, reply-noted, repl
 use Rattle.schedule.specs.Scripts.{ScriptStep}
 use Rattle.schedule.specs.Lines.{theRegister}
 use Rattle.judging.specs.Player.{theJudge}
-use Rattle.agreement.specs.Agreement.{saysTooMany}
+use Rattle.judging.specs.Stopping.{saysTooMany}
 use Rattle.agreement.proofs.Counts.{told-other, counted, judge-counts}
 
 -- The register's words after a run of m cells and n handlers, and a ledger of as many that says the run's history.

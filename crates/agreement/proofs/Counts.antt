@@ -28,7 +28,7 @@ use Rattle.ledger.specs.Noting.{noteWords}
 use Rattle.ledger.specs.Promises.{isCommit, reportsCommit, judgedReply}
 use Rattle.ledger.proofs.Commits.{commits-count}
 use Rattle.ledger.proofs.Steps.{reply-cases, reply-noted}
-use Rattle.agreement.specs.Agreement.{saysTooMany}
+use Rattle.judging.specs.Stopping.{saysTooMany}
 
 -- ── 33 is the judge's alone ───────────────────────────────────────────
 

@@ -6,9 +6,9 @@ use mathlib.Core.Bool.{Bool, false, _||_}
 use mathlib.Core.List.{List, [], _∷_}
 use mathlib.Core.Option.{some}
 use lib.ListN.{length}
-use lib.Dec.{eqb, ltb}
-use Rattle.rules.specs.Tables.{if_then_else_, isFound}
-use Rattle.rules.specs.Replies.{tooManyCommits, refusalNumber, Reply, reported, ready}
+use lib.Dec.{ltb}
+use Rattle.rules.specs.Tables.{if_then_else_}
+use Rattle.rules.specs.Replies.{tooManyCommits, Reply, ready}
 use Rattle.ledger.specs.Promises.{reportsCommit, LedgerPromise}
 use Rattle.schedule.specs.Sound.{orderIn}
 use Rattle.schedule.specs.Taking.{atStart}
@@ -16,6 +16,7 @@ use Rattle.schedule.specs.Runs.{Line, Run, ran, runOf}
 use Rattle.schedule.specs.Lines.{placesFrom, WordRun}
 use Rattle.schedule.specs.Shown.{cellLine}
 use Rattle.judging.specs.Player.{theJudge}
+use Rattle.judging.specs.Stopping.{stops}
 use Rattle.judge.specs.Ending.{judgedEnd}
 
 -- ── The runner's lines, cut ───────────────────────────────────────────
@@ -37,15 +38,6 @@ commitsAmong [] = 0
 commitsAmong (line ∷ lines) = if reportsCommit (line .reply) then (suc (commitsAmong lines)) else (commitsAmong lines)
 
 -- ── The judge's lines ─────────────────────────────────────────────────
-
--- The reply is the refusal 33.
-abbrev pub saysTooMany : Reply ℕ → Bool
-saysTooMany (reported report) = false
-saysTooMany (Reply.refused refusal) = eqb (refusalNumber refusal) 33
-
--- The judge stops at the line of a step that is refused with 33.
-abbrev pub stops : Line → Bool
-stops line = if isFound (line .code) then (saysTooMany (line .reply)) else false
 
 -- The lines up to the one at which the judge stops.
 unfoldable pub untilStop : List Line → List Line
