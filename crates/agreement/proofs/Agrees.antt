@@ -20,7 +20,8 @@ use Rattle.promises.proofs.Runs.{opens}
 use Rattle.promises.proofs.Inherits.{words-told}
 use Rattle.ledger.specs.Promises.{LedgerPromise}
 use Rattle.ledger.proofs.Tested.{tested}
-use Rattle.ledger.proofs.Opened.{Fresh, ledger-ready}
+use Rattle.ledger.proofs.Histories.{Says}
+use Rattle.ledger.proofs.Opened.{ledger-ready}
 use Rattle.schedule.specs.Sound.{handlersIn, cellsIn, orderIn}
 use Rattle.schedule.specs.Taking.{atStart}
 use Rattle.schedule.specs.Judging.{fileRefusal}
@@ -41,27 +42,19 @@ cells-agree : {m n : ℕ} {words ledger : List ℕ} → Beside m n words ledger 
 unfolding judgedEnd
 cells-agree {m} beside c inside =
     let told = words-told (beside .run) c in
-    let commits = beside .same .commits in
-    rw (tested _ .1 (beside .kept), beside .cells, lt-ltb c m inside)
+    let commits = beside .says .same .commits in
+    rw (tested _ .1 (beside .says .ledger), beside .says .cells, lt-ltb c m inside)
     (rw (told .value, told .number, replay-same commits everyCommit, versionCount-same commits c))
 
-module _ {m n : ℕ} {ledger : List ℕ} (fresh : Fresh m n ledger) where
+module _ {m n : ℕ} {ledger : List ℕ} (says : Says m n ledger noHistory) where
   -- An opened ledger stands beside every opened register,
   fresh-beside : {before words : List ℕ} → OpeningPromise before m n ready words → Beside m n words ledger
-  fresh-beside opening = record {
-    asks = _;
-    history = _;
-    run = opened opening;
-    kept = fresh .ledger;
-    cells = fresh .cells;
-    handlers = fresh .handlers;
-    same = fresh .history;
-  }
+  fresh-beside opening = record { asks = _; history = _; run = opened opening; says = says }
 
   -- and has room for 64 commits.
   fresh-room : Room 64 ledger
   unfolding noHistory
-  fresh-room = omega (arith, commits-noted ledger, length-same (fresh .history .commits))
+  fresh-room = omega (arith, commits-noted ledger, length-same (says .same .commits))
 
 -- A register can be opened for every m and n in range.
 register-opens : {m n : ℕ} → InRange m n

@@ -2,7 +2,7 @@
 -- make. So both answer alike, but for a commit for which the judge has no room, and stand beside each other afterwards.
 use Prim.Native.Nat.{ℕ, suc, _+_}
 use native.Mathlib.Omega.{arith}
-use mathlib.Core.Path.{_≡_, refl, ap, _∙_}
+use mathlib.Core.Path.{_≡_, refl, sym, ap, _∙_, subst}
 use mathlib.Core.Bool.{true, false}
 use mathlib.Core.List.{List}
 use borrow.Author.Tests.{le-leb, lt-leb}
@@ -11,18 +11,15 @@ use Rattle.rules.specs.Replies.{tooManyCommits, Reply}
 use Rattle.rules.specs.History.{History, noteReply}
 use Rattle.rules.specs.Demand.{Ask}
 use Rattle.rules.specs.Judge.{judgement}
-use Rattle.rules.proofs.Alike.{SameHistory, history-trans, judgement-same}
-use Rattle.rules.proofs.AlikeNotes.{note-same}
-use Rattle.layout.specs.Places.{cellsOf, handlersOf}
 use Rattle.layout.specs.View.{wordSetting}
 use Rattle.promises.specs.Stepping.{StepPromise}
 use Rattle.promises.specs.Runs.{WordRun, stepped}
 use Rattle.promises.proofs.Inherits.{words-inherit}
-use Rattle.ledger.specs.Entries.{Ledger, commitsNoted, mostCommits}
-use Rattle.ledger.specs.Histories.{historyIn}
+use Rattle.ledger.specs.Entries.{commitsNoted, mostCommits}
 use Rattle.ledger.specs.Promises.{reportsCommit, limited}
-use Rattle.ledger.proofs.Notes.{Keeps}
-use Rattle.ledger.proofs.Steps.{limited-other, reply-limited, reply-noted, reply-keeps}
+use Rattle.ledger.proofs.Steps.{limited-other}
+use Rattle.ledger.proofs.Histories.{Says}
+use Rattle.ledger.proofs.Runs.{says-reply, says-after}
 use Rattle.schedule.specs.Scripts.{ScriptStep}
 use Rattle.schedule.specs.Lines.{theRegister}
 use Rattle.judging.specs.Player.{theJudge}
@@ -34,10 +31,7 @@ pub record Beside (m n : ℕ) (words ledger : List ℕ) : Type 0 where
   pub asks : List (Ask ℕ)
   pub history : History ℕ
   pub run : WordRun m n asks words history
-  pub kept : Ledger ledger
-  pub cells : cellsOf ledger ≡ m
-  pub handlers : handlersOf ledger ≡ n
-  pub same : SameHistory (wordSetting m) history (historyIn ledger)
+  pub says : Says m n ledger history
 
 -- The judge has room for so many commits.
 abbrev pub Room : ℕ → List ℕ → Type 0
@@ -52,18 +46,17 @@ module _ {m n : ℕ} {words ledger : List ℕ} (beside : Beside m n words ledger
   promise : StepPromise words i (step .code) (step .value) reply (theRegister .after words i step)
   promise = record { replied = refl; left = refl }
 
-  -- The register's reply is what the judge's history tells,
-  told : reply ≡ judgement (wordSetting m) n (historyIn ledger) i (step .code)
+  -- The register's reply is what the history tells,
+  told : reply ≡ judgement (wordSetting m) n (beside .history) i (step .code)
   told = words-inherit m n (beside .asks) words (beside .history) (beside .run) .replies promise
-      ∙ judgement-same (beside .same) i n (step .code)
 
   -- which is never 33,
   pub register-other : saysTooMany reply ≡ false
-  register-other = rw told (told-other (wordSetting m) n (historyIn ledger) i (step .code))
+  register-other = rw told (told-other (wordSetting m) n (beside .history) i (step .code))
 
   -- and the judge's is the same within the limit.
   within : theJudge .reply ledger i step ≡ limited (commitsNoted ledger) reply
-  within = reply-limited (beside .kept) i (step .code) ∙ rw (beside .cells, beside .handlers, told)
+  within = says-reply (beside .says) i (step .code) ∙ ap (limited (commitsNoted ledger)) (sym told)
 
   -- A commit without room is refused with 33.
   pub judge-full : Room 0 ledger → reportsCommit reply ≡ true → theJudge .reply ledger i step ≡ Reply.refused tooManyCommits
@@ -86,25 +79,16 @@ module _ {m n : ℕ} {words ledger : List ℕ} (beside : Beside m n words ledger
       asks = _;
       history = _;
       run = stepped asked (beside .run) promise;
-      kept = keeps .ledger;
-      cells = keeps .cells ∙ beside .cells;
-      handlers = keeps .handlers ∙ beside .handlers;
-      same = history-trans (note-same (beside .same) i (kindOf (step .code)) (step .value) reply) noted;
+      says = subst (λ said. Says m n (theJudge .after ledger i step) (noteReply (beside .history) i (kindOf (step .code)) (step .value) said)) alike
+          (says-after (beside .says) i (step .code) (step .value));
     }
       where
         asked : Ask ℕ
         asked = record { handler = i; code = step .code; value = step .value }
 
-        keeps : Keeps ledger (theJudge .after ledger i step)
-        keeps = reply-keeps (beside .kept) i (step .code) (step .value)
-
-        noted : SameHistory (wordSetting m) (noteReply (historyIn ledger) i (kindOf (step .code)) (step .value) reply)
-            (historyIn (theJudge .after ledger i step))
-        noted = rw (← alike, ← beside .cells) (reply-noted (beside .kept) i (step .code) (step .value))
-
     -- the judge has one commit more where the reply reports one,
     counts-after : commitsNoted (theJudge .after ledger i step) ≡ counted (commitsNoted ledger) reply
-    counts-after = judge-counts (beside .kept) i (step .code) (step .value) ∙ ap (counted (commitsNoted ledger)) alike
+    counts-after = judge-counts (beside .says .ledger) i (step .code) (step .value) ∙ ap (counted (commitsNoted ledger)) alike
 
     -- and then room for one less,
     pub room-committed : (room : ℕ) → reportsCommit reply ≡ true → Room (suc room) ledger → Room room (theJudge .after ledger i step)

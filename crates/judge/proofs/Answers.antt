@@ -1,17 +1,17 @@
 -- The answer to a read and to a try, by what is asked of the handler's row and of the commits; and what is then to be noted.
 use Prim.Native.Nat.{ℕ, _+_, _*_, _<_}
 use native.Mathlib.Omega.{arith}
-use mathlib.Core.Path.{_≡_, refl, sym, ap, ap₂, _∙_}
+use mathlib.Core.Path.{_≡_, sym, ap, ap₂, _∙_}
 use mathlib.Core.Bool.{Bool, true, false, _||_}
 use mathlib.Core.List.{List}
 use lib.ListN.{getD}
 use borrow.Author.Tests.{lt-ltb}
 use Rattle.rules.specs.Tables.{if_then_else_, someBelow}
 use Rattle.rules.specs.Codes.{Step, try, read}
-use Rattle.rules.specs.Replies.{torn, overtaken, Outcome, value, committed, aborted}
+use Rattle.rules.specs.Replies.{torn, overtaken, value, committed, aborted}
 use Rattle.rules.specs.Register.{Setting}
 use Rattle.rules.specs.Checks.{firstHit}
-use Rattle.rules.specs.History.{Deed, Commit, History, hasRead, hasWritten, writer, everyCommit}
+use Rattle.rules.specs.History.{Deed, Commit, hasRead, hasWritten, writer, everyCommit}
 use Rattle.rules.specs.Past.{tears}
 use Rattle.rules.specs.Replay.{replay}
 use Rattle.rules.specs.Judge.{copied, stale, orAborted, answerRead, answerTry, answer}

@@ -1,19 +1,16 @@
--- What the judge shows of a cell, by its ways; and that any two ends that its promise allows are equal.
+-- What the judge shows of a cell, by its ways.
 use Prim.Native.Nat.{ℕ, _≤_, _<_}
-use mathlib.Core.Path.{_≡_, sym, ap, ap₂, _∙_}
-use mathlib.Core.Bool.{true, false, and-false}
+use mathlib.Core.Path.{_≡_, ap₂}
+use mathlib.Core.Bool.{false, and-false}
 use mathlib.Core.List.{List}
 use mathlib.Core.Option.{none, some}
 use borrow.Author.Tests.{lt-ltb, le-ltb}
-use Rattle.rules.specs.Tables.{if_then_else_}
 use Rattle.rules.specs.History.{everyCommit}
 use Rattle.rules.specs.Replay.{replay}
 use Rattle.rules.specs.Judge.{versionCount}
 use Rattle.layout.specs.Places.{cellsOf}
 use Rattle.layout.specs.View.{wordSetting}
-use Rattle.schedule.specs.Shown.{CellLine, endIs}
-use Rattle.schedule.specs.declared.End.{End}
-use Rattle.schedule.proofs.ShownApart.{ends-apart}
+use Rattle.schedule.specs.Shown.{CellLine}
 use Rattle.ledger.specs.Entries.{commitsNoted, Ledger, isLedger}
 use Rattle.ledger.specs.Histories.{commitsIn, historyIn}
 use Rattle.ledger.proofs.Tested.{tested}
@@ -39,7 +36,3 @@ end-shown {words} {c} ledger inside holds counted = record {
   replied = rw (tested words .1 ledger, lt-ltb c (cellsOf words) inside)
       (ap₂ (λ (v k : ℕ). some (let line : CellLine = record { value = v; number = k } in line)) holds counted);
 }
-
--- A cell has one end.
-pub end-determined : {words : List ℕ} {c : ℕ} {a b : End} → JudgedEndPromise words c (endIs a) → JudgedEndPromise words c (endIs b) → a ≡ b
-end-determined p q = ends-apart _ _ (p .replied ∙ sym (q .replied))

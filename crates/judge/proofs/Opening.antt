@@ -1,10 +1,9 @@
 -- An opening of the judge by its ways: refused with 20 or 21 and nothing changed, or ready with a fresh ledger in front of the words.
-use Prim.Native.Nat.{ℕ, _+_, _-_, _≤_, _<_}
+use Prim.Native.Nat.{ℕ, _+_, _-_, _≤_}
 use native.Mathlib.Omega.{arith}
 use mathlib.Core.Path.{_≡_, sym, ap, ap₂, _∙_}
 use mathlib.Core.Bool.{true}
 use mathlib.Core.List.{List, _∷_, _++_}
-use mathlib.Core.Option.{none, some}
 use lib.ListN.{length, getD, set, drop, length-set, length-drop}
 use lib.Seq.{ext-getD, getD-drop, drop-cons, getD-set-same, getD-set-other}
 use borrow.Author.Tests.{le-ltb}

@@ -1,10 +1,9 @@
 -- A step that no check refuses: taken by its kind, and passed within the limit.
 use Prim.Native.Nat.{ℕ}
-use mathlib.Core.Path.{_≡_, refl, sym, ap, _∙_}
+use mathlib.Core.Path.{_≡_, refl, ap}
 use mathlib.Core.Bool.{true, false}
 use mathlib.Core.List.{List}
-use Rattle.rules.specs.Tables.{if_then_else_}
-use Rattle.rules.specs.Codes.{Step, begin, write, known}
+use Rattle.rules.specs.Codes.{Step, begin, write}
 use Rattle.rules.specs.Replies.{ok, Outcome, tooManyCommits, Reply}
 use Rattle.rules.specs.Demand.{reportedTo}
 use Rattle.rules.specs.Judge.{answer}

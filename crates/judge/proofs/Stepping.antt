@@ -1,10 +1,9 @@
 -- The judge's step by its ways: no ledger, refused by a check, or passed.
 use Prim.Native.Nat.{ℕ}
 use mathlib.Core.Path.{_≡_, refl, sym, ap, ap₂, _∙_}
-use mathlib.Core.Bool.{Bool, true, false}
+use mathlib.Core.Bool.{Bool, false}
 use mathlib.Core.List.{List}
 use mathlib.Core.Option.{Option, none, some}
-use Rattle.rules.specs.Tables.{if_then_else_}
 use Rattle.rules.specs.Codes.{Step, Kind, known, kindOf}
 use Rattle.rules.specs.Replies.{Refusal, notWellFormed, Reply}
 use Rattle.rules.specs.Checks.{firstHit, stepChecks}

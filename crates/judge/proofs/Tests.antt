@@ -1,6 +1,6 @@
 -- What the judge reads off its words before a step.
 use Prim.Native.Nat.{ℕ, _+_, _*_, _≤_, _<_}
-use mathlib.Core.Path.{_≡_, refl, sym, ap, _∙_}
+use mathlib.Core.Path.{_≡_, refl, sym}
 use mathlib.Core.Bool.{Bool, true, false, not, _&&_, _||_, and-false}
 use mathlib.Core.List.{List}
 use lib.ListN.{length, getD}
@@ -8,7 +8,7 @@ use lib.Dec.{eqb, leb}
 use borrow.Author.Tests.{lt-leb, le-leb}
 use Rattle.rules.specs.Tables.{if_then_else_}
 use Rattle.rules.specs.Codes.{Step, begin, try, read, write}
-use Rattle.rules.specs.Replies.{overtaken, Outcome, committed, aborted}
+use Rattle.rules.specs.Replies.{overtaken, committed, aborted}
 use Rattle.rules.specs.Checks.{inRange, firstHit}
 use Rattle.rules.specs.Register.{Setting}
 use Rattle.rules.specs.History.{Deed, Commit, hasRead, hasWritten, writer}

@@ -14,7 +14,6 @@ use Rattle.rules.specs.Replay.{after}
 use Rattle.rules.specs.Judge.{copied}
 use Rattle.rules.proofs.Tables.{by, same-test}
 use Rattle.rules.proofs.Searches.{some-only, some-next}
-use Rattle.layout.specs.Rows.{below}
 use Rattle.ledger.specs.Entries.{Entry}
 use Rattle.ledger.specs.Histories.{lookOf, setOf, deedsOf}
 

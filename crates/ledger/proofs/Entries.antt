@@ -4,7 +4,7 @@ use Prim.Native.Nat.{ℕ, _+_, _*_, _≤_, _<_}
 use native.Mathlib.Omega.{arith}
 use mathlib.Core.Path.{_≡_, refl, sym, ap, ap₂, _∙_}
 use mathlib.Core.List.{List, [], _∷_, _++_}
-use lib.ListN.{length, getD, drop, length-append}
+use lib.ListN.{length, getD, length-append}
 use lib.Seq.{drop-cons, getD-append-add}
 use lib.Dec.{ltb}
 use borrow.Author.Tests.{ltb-true, ltb-false}
@@ -12,7 +12,7 @@ use Rattle.rules.proofs.Tables.{by}
 use Rattle.layout.specs.Bits.{hasBit, mask}
 use Rattle.layout.specs.Rows.{row, part, splice}
 use Rattle.layout.proofs.Bits.{has-mask}
-use Rattle.layout.proofs.Rows.{part-length, part-at, row-length, row-at, row-first, row-behind, row-cut, row-last, rows-apart}
+use Rattle.layout.proofs.Rows.{part-length, part-at, row-length, row-at, row-first, row-behind, row-cut, row-last}
 use Rattle.layout.proofs.Untouched.{Untouched, splice-part, splice-untouched, untouched-is}
 use Rattle.ledger.specs.Entries.{Entry, entryIn, pourEntry, withEntry}
 use Rattle.ledger.proofs.Noted.{SameAt}

@@ -1,15 +1,13 @@
 -- The history that words say after an entry is put in: another handler's deeds, or one commit more.
-use Prim.Native.Nat.{ℕ, zero, suc, _+_, _*_, _≤_, _<_}
+use Prim.Native.Nat.{ℕ, zero, suc, _≤_, _<_}
 use native.Mathlib.Omega.{arith}
 use mathlib.Core.Path.{_≡_, refl, sym, ap, ap₂, _∙_, subst, subst₂}
 use mathlib.Core.Bool.{Bool, false, not}
 use mathlib.Core.List.{List, [], _∷_}
-use lib.ListN.{length, getD}
 use lib.Dec.{eqb, ltb}
 use borrow.Author.Tests.{ltb-true}
 use Rattle.rules.specs.Tables.{put}
 use Rattle.rules.specs.Register.{Setting}
-use Rattle.rules.specs.Given.{InRange}
 use Rattle.rules.specs.History.{Deed, Commit, Abort, History}
 use Rattle.rules.proofs.Tables.{by, put-each}
 use Rattle.rules.proofs.Alike.{SameDeeds, SameCommits, SameHistory, deeds-refl, commits-refl}
@@ -17,11 +15,11 @@ use Rattle.layout.specs.Rows.{below}
 use Rattle.layout.specs.Places.{cellsOf, handlersOf}
 use Rattle.layout.specs.View.{wordSetting}
 use Rattle.layout.proofs.Rows.{below-inside}
-use Rattle.ledger.specs.Entries.{Ledger, Entry, entryIn, withEntry, commitsNoted, handlerRow, commitRow}
+use Rattle.ledger.specs.Entries.{Ledger, Entry, entryIn, commitsNoted, handlerRow, commitRow}
 use Rattle.ledger.specs.Histories.{lookOf, setOf, deedsOf, commitOf, commitsIn, isOpen, historyIn}
 use Rattle.ledger.specs.Noting.{emptyEntry, committedEntry}
 use Rattle.ledger.proofs.Noted.{SameAt}
-use Rattle.ledger.proofs.Entries.{SameEntry, with-untouched, with-here, with-other}
+use Rattle.ledger.proofs.Entries.{SameEntry}
 
 -- Entries that say the same of the first m cells say the same deeds of them.
 pub deeds-ext : (m : ℕ) (e f : Entry) → ((c : ℕ) → c < m → SameAt e f c) → deedsOf e m ≡ deedsOf f m
@@ -130,3 +128,12 @@ module _ {words : List ℕ} (ledger : Ledger words) {i : ℕ} (seat : i < handle
         (table-changed (SameDeeds S) [] (λ f. deedsOf f (cellsOf words)) deeds (λ _. deeds-refl) same
         (λ f g. deeds-of-same (cellsOf words) (ledger .range .cells)) j);
   }
+
+-- ── The history that words say ────────────────────────────────────────
+
+-- The words are a ledger of m cells and n handlers, and no answer can tell the history that they say from this one.
+pub record Says (m n : ℕ) (words : List ℕ) (h : History ℕ) : Type 0 where
+  pub ledger : Ledger words
+  pub cells : cellsOf words ≡ m
+  pub handlers : handlersOf words ≡ n
+  pub same : SameHistory (wordSetting m) h (historyIn words)

@@ -12,3 +12,4 @@ pub mod Steps
 pub mod Opened
 pub mod Tight
 pub mod Exactly
+pub mod Runs

@@ -1,22 +1,21 @@
 -- A deed on top of an entry's deeds is one more note in the entry: no answer can tell the two apart.
-use Prim.Native.Nat.{ℕ, zero, suc, _<_}
-use native.Mathlib.Omega.{arith}
+use Prim.Native.Nat.{ℕ, suc, _<_}
 use mathlib.Core.Path.{_≡_, refl, sym, ap, _∙_}
-use mathlib.Core.Bool.{Bool, true, false, _&&_, _||_, or-true}
-use mathlib.Core.List.{List, [], _∷_}
-use lib.Dec.{eqb, ltb}
+use mathlib.Core.Bool.{Bool, true, false, _||_, or-true}
+use mathlib.Core.List.{_∷_}
+use lib.Dec.{eqb}
 use borrow.Author.Tests.{lt-ltb, eqb-true, eqb-false}
-use Rattle.rules.specs.Tables.{if_then_else_, put, someBelow}
+use Rattle.rules.specs.Tables.{put, someBelow}
 use Rattle.rules.specs.Register.{Setting}
-use Rattle.rules.specs.History.{Deed, look, again, set, someLook, hasWritten}
+use Rattle.rules.specs.History.{look, set, someLook, hasWritten}
 use Rattle.rules.specs.Replay.{after}
 use Rattle.rules.specs.Judge.{copied}
-use Rattle.rules.proofs.Tables.{by, same-test, either, some-true, some-from, put-here, put-other}
+use Rattle.rules.proofs.Tables.{by, put-here, put-other}
 use Rattle.rules.proofs.Searches.{some-more}
 use Rattle.rules.proofs.Alike.{SameDeeds}
 use Rattle.ledger.specs.Entries.{Entry}
 use Rattle.ledger.specs.Histories.{deedsOf}
-use Rattle.ledger.specs.Noting.{emptyEntry, readEntry, writtenEntry}
+use Rattle.ledger.specs.Noting.{readEntry, writtenEntry}
 use Rattle.ledger.proofs.Deeds.{lookPasses, hasSource, looks-at, writes-at, copies-at, leaves-at}
 
 -- Two entries say the same of the cell y.

@@ -2,23 +2,20 @@
 -- history noted by the rules.
 use Prim.Native.Nat.{ℕ, suc, _+_, _*_, _≤_, _<_}
 use native.Mathlib.Omega.{arith}
-use mathlib.Core.Path.{_≡_, refl, sym, ap, _∙_, subst, subst₂}
-use mathlib.Core.Bool.{Bool, true, false, _||_}
+use mathlib.Core.Path.{_≡_, refl, sym, _∙_, subst₂}
+use mathlib.Core.Bool.{Bool, false}
 use mathlib.Core.List.{List, [], _∷_}
 use lib.ListN.{length, getD, set, length-set}
 use lib.Seq.{getD-set-same, getD-set-other}
-use lib.Dec.{ltb}
-use Rattle.rules.specs.Register.{Setting}
 use Rattle.rules.specs.Given.{InRange}
-use Rattle.rules.specs.History.{Deed, Commit, Abort, History, transaction}
-use Rattle.rules.proofs.Alike.{SameDeeds, SameCommits, more, SameHistory, deeds-refl}
+use Rattle.rules.specs.History.{Deed, Abort, transaction}
+use Rattle.rules.proofs.Alike.{SameDeeds, SameCommits, more, SameHistory}
 use Rattle.layout.specs.Places.{cellsOf, handlersOf}
 use Rattle.layout.specs.View.{wordSetting}
 use Rattle.layout.proofs.Rows.{below-inside}
 use Rattle.ledger.specs.Entries.{Ledger, Entry, entryIn, withEntry, commitsNoted, mostCommits, handlerRow, commitRow}
 use Rattle.ledger.specs.Histories.{deedsOf, commitsIn, isOpen, historyIn}
 use Rattle.ledger.specs.Noting.{emptyEntry, committedEntry, noteCommit}
-use Rattle.ledger.proofs.Noted.{SameAt}
 use Rattle.ledger.proofs.Entries.{SameEntry, entry-kept, with-untouched, with-here, with-other}
 use Rattle.ledger.proofs.Histories.{empty-deeds, committed-deeds, deeds-of-same, commits-kept, same-deeds, same-commits}
 use Rattle.ledger.proofs.Histories.{changed, Changes, history-changed}

@@ -15,7 +15,6 @@ use Rattle.rules.proofs.Given.{range-tested}
 use Rattle.rules.proofs.Alike.{SameHistory}
 use Rattle.layout.specs.Bits.{hasBit}
 use Rattle.layout.specs.Rows.{row}
-use Rattle.layout.specs.Places.{cellsOf, handlersOf}
 use Rattle.layout.specs.View.{wordSetting}
 use Rattle.layout.proofs.Bits.{has-mask, mask-none}
 use Rattle.layout.proofs.Rows.{row-length, row-first, below-is}
@@ -25,14 +24,7 @@ use Rattle.ledger.specs.Histories.{deedsOf, commitsIn, isOpen, historyIn
 use Rattle.ledger.specs.Noting.{emptyEntry}
 use Rattle.ledger.specs.Promises.{ledgerRefusal, freshLedger, ledgerWords, LedgerPromise}
 use Rattle.ledger.proofs.Entries.{SameEntry}
-use Rattle.ledger.proofs.Histories.{empty-deeds, deeds-of-same, same-deeds, same-commits}
-
--- The words are a ledger for m cells and n handlers that says no history.
-pub record Fresh (m n : ℕ) (words : List ℕ) : Type 0 where
-  pub ledger : Ledger words
-  pub cells : cellsOf words ≡ m
-  pub handlers : handlersOf words ≡ n
-  pub history : SameHistory (wordSetting m) noHistory (historyIn words)
+use Rattle.ledger.proofs.Histories.{Says, empty-deeds, deeds-of-same, same-deeds, same-commits}
 
 -- A word that is 0 is no cell's bit.
 no-bit : (c : ℕ) → c < 32 → hasBit 0 c ≡ false
@@ -96,16 +88,16 @@ module _ (m n : ℕ) (range : InRange m n) (rest : List ℕ) where
   }
 
   -- So it is fresh.
-  fresh-is : Fresh m n words
+  fresh-is : Says m n words noHistory
   unfolding freshLedger
-  fresh-is = record { ledger = fresh-ledger; cells = refl; handlers = refl; history = fresh-history }
+  fresh-is = record { ledger = fresh-ledger; cells = refl; handlers = refl; same = fresh-history }
 
 -- What an opening that is ready leaves is fresh.
-pub ledger-ready : {words : List ℕ} {m n : ℕ} {after : List ℕ} → LedgerPromise words m n ready after → Fresh m n after
+pub ledger-ready : {words : List ℕ} {m n : ℕ} {after : List ℕ} → LedgerPromise words m n ready after → Says m n after noHistory
 unfolding ledgerWords ledgerRefusal
 ledger-ready {words} {m} {n} p =
     let passed = checks-passed m n (length words) ledgerLong passes in
-    subst (Fresh m n) (sym (p .left ∙ rw passes)) (fresh-is m n (range-tested m n .0 (passed .0)) (drop ledgerLong words))
+    subst (λ words. Says m n words noHistory) (sym (p .left ∙ rw passes)) (fresh-is m n (range-tested m n .0 (passed .0)) (drop ledgerLong words))
   where
     passes : ledgerRefusal words m n ≡ none
     passes = opening-passes (ledgerRefusal words m n) (sym (p .replied))

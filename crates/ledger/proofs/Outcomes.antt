@@ -2,9 +2,8 @@
 use Prim.Native.Nat.{ℕ, zero, suc, _<_}
 use native.Mathlib.Omega.{arith}
 use mathlib.Core.Path.{_≡_, refl, sym, ap, _∙_, subst}
-use mathlib.Core.Bool.{Bool, true, false, _||_}
+use mathlib.Core.Bool.{true, false, _||_}
 use mathlib.Core.List.{List, [], _∷_}
-use Rattle.rules.specs.Tables.{if_then_else_}
 use Rattle.rules.specs.Codes.{Step, begin, try, read, write}
 use Rattle.rules.specs.Replies.{Outcome, ok, value, committed, aborted}
 use Rattle.rules.specs.Register.{Setting}

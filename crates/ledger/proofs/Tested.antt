@@ -1,13 +1,11 @@
 -- The test of a ledger answers exactly the proposition.
 use Prim.Native.Nat.{_≤_}
 use mathlib.Core.Path.{_≡_}
-use mathlib.Core.Bool.{true, _&&_}
+use mathlib.Core.Bool.{true}
 use mathlib.Core.List.{List}
 use mathlib.Core.Logic.{_↔_}
 use Prim.Native.Nat.{ℕ}
 use lib.ListN.{length}
-use lib.Dec.{leb}
-use Rattle.rules.specs.Checks.{inRange}
 use Rattle.rules.specs.Given.{InRange}
 use Rattle.rules.proofs.Tables.{and-iff, leb-iff}
 use Rattle.rules.proofs.Given.{range-tested}

@@ -3,4 +3,5 @@ pub mod Entries
 pub mod Histories
 pub mod Noting
 pub mod Promises
+pub mod Runs
 pub mod Given

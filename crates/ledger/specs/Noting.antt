@@ -7,7 +7,7 @@ use Rattle.rules.specs.Tables.{if_then_else_, put}
 use Rattle.rules.specs.Codes.{Step, begin, try, read, write, Kind, known, unknown}
 use Rattle.rules.specs.Replies.{Outcome, ok, value, committed, aborted, Reply, reported}
 use Rattle.rules.specs.Register.{noCells, zeros}
-use Rattle.rules.specs.History.{hasRead, hasWritten, writer, History}
+use Rattle.rules.specs.History.{hasRead, hasWritten, writer}
 use Rattle.ledger.specs.Entries.{commitsNoted, handlerRow, commitRow, Entry, entryIn, withEntry}
 use Rattle.ledger.specs.Histories.{historyIn}
 

@@ -3,16 +3,12 @@ use Prim.Native.Nat.{ℕ, suc, _+_, _*_, _^_, _≤_, _<_}
 use native.Mathlib.Omega.{arith}
 use native.Mathlib.Numerals.{add-one}
 use mathlib.Core.Path.{_≡_, refl, sym, ap, _∙_}
-use mathlib.Core.Bool.{true}
 use mathlib.Core.List.{List}
 use lib.ListN.{length, getD, set, length-set}
 use lib.Seq.{getD-set-same, getD-set-other}
-use lib.Dec.{eqb}
-use borrow.Author.Tests.{eqb-true, eqb-false}
-use Rattle.rules.specs.Tables.{put}
 use Rattle.rules.specs.Register.{zeros}
-use Rattle.rules.proofs.Tables.{by, put-each}
-use Rattle.layout.specs.Bits.{hasBit, mask}
+use Rattle.rules.proofs.Tables.{put-each}
+use Rattle.layout.specs.Bits.{mask}
 use Rattle.layout.proofs.Bits.{withBit, mask-none, mask-has, mask-with}
 use Rattle.layout.proofs.Untouched.{Untouched}
 use Rattle.words.specs.Rows.{Changed}

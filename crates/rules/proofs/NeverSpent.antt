@@ -9,7 +9,7 @@ use lib.ListN.{length}
 use borrow.Author.Tests.{ne-eqb}
 use Rattle.rules.specs.Tables.{if_then_else_, someBelow}
 use Rattle.rules.specs.Codes.{Step, begin, try, read, write}
-use Rattle.rules.specs.Replies.{torn, overtaken, spent, Outcome, value, committed, aborted}
+use Rattle.rules.specs.Replies.{torn, overtaken, spent, Outcome, committed, aborted}
 use Rattle.rules.specs.Register.{Setting}
 use Rattle.rules.specs.Checks.{firstHit}
 use Rattle.rules.specs.History.{Deed, Commit, History, hasRead, hasWritten, writer}

@@ -7,7 +7,6 @@ use Rattle.rules.specs.Replies.{Reply}
 use Rattle.schedule.specs.declared.Next.{Next}
 use Rattle.schedule.specs.declared.Next.the-variants.{Taken}
 use Rattle.schedule.specs.Meaning.{nextIs}
-use Rattle.schedule.specs.Scripts.{ScriptStep}
 use Rattle.schedule.specs.Taking.{Cursors, NextPromise}
 use Rattle.schedule.specs.Runs.{Line, stepLine}
 use Rattle.schedule.specs.Lines.{Player, lineFor, wordsFor, PlacePromise}

@@ -1,5 +1,5 @@
 -- `judge::cell_end` meets its promise: the value of the cell's present version, and how many commits wrote it.
-use mathlib.Core.Path.{_≡_, sym, _∙_}
+use mathlib.Core.Path.{sym, _∙_}
 use native.Mathlib.Omega.{arith}
 use borrow.Author.Needs.{needs}
 use borrow.Author.Tests.{not-true, not-false}

@@ -5,7 +5,6 @@ use native.Mathlib.Omega.{arith}
 use lib.ListN.{length-set}
 use borrow.Author.Needs.{needs}
 use borrow.Author.Tests.{not-true, not-false}
-use mathlib.Core.Bool.{true≢false}
 use Rattle.rules.specs.Replies.{outOfRange, tooShort}
 use Rattle.rules.specs.Checks.{inRange}
 use Rattle.rules.proofs.Tables.{both-ways}

@@ -1,5 +1,5 @@
 -- `judge::reading::is_ledger` meets its contract: long enough, m and n in range, and at most 64 commits noted.
-use mathlib.Core.Path.{_≡_, sym, _∙_}
+use mathlib.Core.Path.{sym, _∙_}
 use native.Mathlib.Omega.{arith}
 use borrow.Author.Needs.{needs}
 use borrow.Author.Tests.{not-true, not-false}

@@ -1,6 +1,5 @@
 -- `judge::taking::attempt` meets its contract: a stale read ends the transaction, and without one it commits.
 use mathlib.Core.Path.{_≡_, _∙_}
-use mathlib.Core.Bool.{Bool}
 use borrow.Author.Needs.{needs}
 use Rattle.judge.proofs.Answers.{isStale, stale-told, takes-overtaken, takes-commit, commit-room}
 use Rattle.judge.proofs.taking.attempt.Statement.{statement}
