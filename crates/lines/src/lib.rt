@@ -1,5 +1,9 @@
-// The lines of a run on standard output, the same for every program that runs a schedule file.
-// PUBLIC: nothing here has a `requires`. Nothing is answered and nothing lent, so there is no promise beside that each function ends.
+// The lines of a run on standard output, the same for every program that runs a schedule file. A line is put together in a buffer
+// and written by one call.
+// PUBLIC: nothing that is offered has a `requires`. Nothing is answered and nothing lent, so there is no promise beside that each
+// function ends.
+ghost use Prim.Native.Nat.{_≤_};
+ghost use lib.ListN.{length};
 use libc::STDOUT_FILENO;
 use replies::Answer;
 use replies::Outcome;
@@ -7,109 +11,162 @@ use replies::Refusal;
 use schedule::End;
 use schedule::Shown;
 
-// A text.
-fn text(bytes: &[u8]) {
-    io::write_all(STDOUT_FILENO, bytes);
+// The smaller of two numbers.
+fn smaller(a: usize, b: usize) -> usize
+    ensures { λ r. ⌜ (r ≤ a) × (r ≤ b) ⌝ }
+{
+    if a < b { a } else { b }
 }
 
-// A number.
-fn number(n: u64) {
-    io::print_decimal(STDOUT_FILENO, n);
+// Puts a text behind so many bytes of a line, as far as there is room; how many bytes there are then.
+fn text(line: &mut [u8], long: usize, bytes: &[u8]) -> usize
+    requires { ⌜ long ≤ length (now line) ⌝ }
+    ensures { λ r. ⌜ r ≤ length (now (line .exit)) ⌝ }
+{
+    let count = smaller(bytes.len(), line.len() - long);
+    for k in 0..count {
+        line[long + k] = bytes[k];
+    }
+    long + count
 }
 
-// The line of a refusal, or the rest of one.
+// Puts a number behind so many bytes of a line.
+fn number(line: &mut [u8], long: usize, n: u64) -> usize
+    requires { ⌜ long ≤ length (now line) ⌝ }
+    ensures { λ r. ⌜ r ≤ length (now (line .exit)) ⌝ }
+{
+    let mut digits = [0u8; 20];
+    let count = io::decimal(n, &mut digits);
+    text(line, long, &digits[..count])
+}
+
+// Writes a line and its end.
+fn write_line(line: &mut [u8], long: usize)
+    requires { ⌜ long ≤ length (now line) ⌝ }
+{
+    let end = text(line, long, b"\n");
+    io::write_all(STDOUT_FILENO, &line[..end]);
+}
+
+// Puts a refusal behind so many bytes of a line.
+fn refused(line: &mut [u8], long: usize, refusal: Refusal) -> usize
+    requires { ⌜ long ≤ length (now line) ⌝ }
+    ensures { λ r. ⌜ r ≤ length (now (line .exit)) ⌝ }
+{
+    let told = text(line, long, b"refused ");
+    number(line, told, replies::refusal_number(refusal) as u64)
+}
+
+// Puts what a step came to behind so many bytes of a line.
+fn outcome(line: &mut [u8], long: usize, outcome: Outcome) -> usize
+    requires { ⌜ long ≤ length (now line) ⌝ }
+    ensures { λ r. ⌜ r ≤ length (now (line .exit)) ⌝ }
+{
+    match outcome {
+        Outcome::Done => text(line, long, b"ok"),
+        Outcome::Value(value) => {
+            let told = text(line, long, b"value ");
+            number(line, told, value as u64)
+        }
+        Outcome::Committed => text(line, long, b"commit"),
+        Outcome::Aborted(reason) => {
+            let told = text(line, long, b"abort ");
+            number(line, told, replies::reason_number(reason) as u64)
+        }
+    }
+}
+
+// Puts the refusal of an answer that is one behind so many bytes of a line.
+fn refusal_of(line: &mut [u8], long: usize, answer: Answer) -> usize
+    requires { ⌜ long ≤ length (now line) ⌝ }
+    ensures { λ r. ⌜ r ≤ length (now (line .exit)) ⌝ }
+{
+    match answer {
+        Answer::Refused(refusal) => refused(line, long, refusal),
+        Answer::Reported(_) => long,
+    }
+}
+
+// Puts a step's answer, its report or the refusal, behind so many bytes of a line.
+fn answered(line: &mut [u8], long: usize, answer: Answer) -> usize
+    requires { ⌜ long ≤ length (now line) ⌝ }
+    ensures { λ r. ⌜ r ≤ length (now (line .exit)) ⌝ }
+{
+    let Answer::Reported(report) = answer else {
+        return refusal_of(line, long, answer);
+    };
+    let came = report.outcome;
+    outcome(line, long, came)
+}
+
+// The start of a line: place and handler.
+fn start(line: &mut [u8], place: usize, handler: u32) -> usize
+    ensures { λ r. ⌜ r ≤ length (now (line .exit)) ⌝ }
+{
+    let placed = number(line, 0, place as u64);
+    let apart = text(line, placed, b" ");
+    let handled = number(line, apart, handler as u64);
+    text(line, handled, b" ")
+}
+
+// The one line of a refused file.
 pub fn print_refused(refusal: Refusal) {
-    text(b"refused ");
-    number(replies::refusal_number(refusal) as u64);
-    text(b"\n");
+    let mut space = [0u8; 128];
+    let line: &mut [u8] = &mut space;
+    let end = refused(line, 0, refusal);
+    write_line(line, end);
 }
 
 // The header.
 pub fn print_header(handlers: u32, cells: u32) {
-    text(b"handlers ");
-    number(handlers as u64);
-    text(b" cells ");
-    number(cells as u64);
-    text(b"\n");
-}
-
-// The rest of a line: what a step came to.
-fn print_outcome(outcome: Outcome) {
-    match outcome {
-        Outcome::Done => text(b"ok\n"),
-        Outcome::Value(value) => {
-            text(b"value ");
-            number(value as u64);
-            text(b"\n");
-        }
-        Outcome::Committed => text(b"commit\n"),
-        Outcome::Aborted(reason) => {
-            text(b"abort ");
-            number(replies::reason_number(reason) as u64);
-            text(b"\n");
-        }
-    }
-}
-
-// The refusal of an answer that is one.
-fn print_refusal_of(answer: Answer) {
-    match answer {
-        Answer::Refused(refusal) => print_refused(refusal),
-        Answer::Reported(_) => {}
-    }
-}
-
-// The rest of a line: a step's answer, its report or the refusal.
-fn print_answer(answer: Answer) {
-    let Answer::Reported(report) = answer else {
-        print_refusal_of(answer);
-        return;
-    };
-    let outcome = report.outcome;
-    print_outcome(outcome);
-}
-
-// The start of a line: place and handler.
-fn print_start(place: usize, handler: u32) {
-    number(place as u64);
-    text(b" ");
-    number(handler as u64);
-    text(b" ");
+    let mut space = [0u8; 128];
+    let line: &mut [u8] = &mut space;
+    let named = text(line, 0, b"handlers ");
+    let counted = number(line, named, handlers as u64);
+    let besides = text(line, counted, b" cells ");
+    let end = number(line, besides, cells as u64);
+    write_line(line, end);
 }
 
 // The line of an order place, if it shows one.
 pub fn print_place(place: usize, shown: Shown) {
+    let mut space = [0u8; 128];
+    let line: &mut [u8] = &mut space;
     match shown {
         Shown::Nothing => {}
         Shown::NoStep { handler, refusal } => {
-            print_start(place, handler);
-            text(b"- ");
-            print_refused(refusal);
+            let started = start(line, place, handler);
+            let without = text(line, started, b"- ");
+            let end = refused(line, without, refusal);
+            write_line(line, end);
         }
         Shown::Asked {
             handler,
             code,
             answer,
         } => {
-            print_start(place, handler);
-            number(code as u64);
-            text(b" ");
-            print_answer(answer);
+            let started = start(line, place, handler);
+            let coded = number(line, started, code as u64);
+            let apart = text(line, coded, b" ");
+            let end = answered(line, apart, answer);
+            write_line(line, end);
         }
     }
 }
 
 // The line of a cell at the end.
 pub fn print_cell(c: u32, end: End) {
+    let mut space = [0u8; 128];
+    let line: &mut [u8] = &mut space;
     match end {
         End::Cell { value, number: own } => {
-            text(b"cell ");
-            number(c as u64);
-            text(b" value ");
-            number(value as u64);
-            text(b" number ");
-            number(own as u64);
-            text(b"\n");
+            let named = text(line, 0, b"cell ");
+            let counted = number(line, named, c as u64);
+            let valued = text(line, counted, b" value ");
+            let told = number(line, valued, value as u64);
+            let numbered = text(line, told, b" number ");
+            let all = number(line, numbered, own as u64);
+            write_line(line, all);
         }
         End::Missing => {}
     }
