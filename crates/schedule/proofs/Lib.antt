@@ -7,5 +7,6 @@ pub mod Takes
 pub mod Nexts
 pub mod Apart
 pub mod ShownApart
+pub mod Exactly
 pub mod Tight
 pub mod Shows

@@ -10,3 +10,4 @@ pub mod Lines
 pub mod Shown
 pub mod Meaning
 pub mod Fronts
+pub mod Given
