@@ -1,4 +1,5 @@
 //! The directed schedules of `examples/`: the bytes are those of the commented text, and runner and judge print what is expected.
+//! The programs in C there have an expected output too; the gate compiles and runs them.
 use reference::{hexadecimal, judge, schedule};
 use std::collections::BTreeSet;
 use std::ffi::OsStr;
@@ -29,7 +30,7 @@ fn each_example_has_its_three_files() {
     let sources = names("hex");
     assert!(sources.len() > 12);
     assert_eq!(sources, names("bin"));
-    assert_eq!(sources, names("out"));
+    assert_eq!(&sources | &names("c"), names("out"));
 }
 
 #[test]

@@ -1,0 +1,126 @@
+// A depot with two sites and one register: cell 0 says which mast stands at the north site, cell 1 which at the south site, 0 for
+// none. The desk and two feed handlers share it. The desk brings the northern mast to the south site; while it does, the north feed
+// reports another mast there, so the desk's try is aborted, and the desk begins anew until it commits.
+#include "zidlemowo.h"
+
+#include <inttypes.h>
+#include <stdbool.h>
+#include <stdio.h>
+#include <stdlib.h>
+
+// The cells.
+enum { NORTH, SOUTH, SITES };
+
+// The handlers.
+enum { DESK, NORTH_FEED, SOUTH_FEED, HANDLERS };
+
+// How many words the register needs.
+#define LENGTH ((size_t)ZIDLEMOWO_WORDS(SITES, HANDLERS))
+
+// A register in its own buffer.
+struct depot {
+    uint32_t words[LENGTH];
+};
+
+// Whether a reply ended the transaction with nothing of it kept.
+static bool aborted(uint64_t reply) { return zidlemowo_kind(reply) == ZIDLEMOWO_ABORT; }
+
+// Takes a step whose reply has to be of the expected kind; an abort may come in the place of a value or a commit. Any other reply is a
+// mistake of this program and ends it.
+static uint64_t take(struct depot *depot, uint32_t handler, uint32_t code, uint32_t value, uint32_t expected) {
+    const uint64_t reply = zidlemowo_step(depot->words, LENGTH, handler, code, value);
+    const bool may_abort = expected == ZIDLEMOWO_VALUE || expected == ZIDLEMOWO_COMMIT;
+    if (zidlemowo_kind(reply) != expected && !(may_abort && aborted(reply))) {
+        fprintf(stderr, "handler %" PRIu32 ", code %" PRIu32 ": kind %" PRIu32 ", detail %" PRIu32 "\n", handler, code,
+                zidlemowo_kind(reply), zidlemowo_detail(reply));
+        exit(EXIT_FAILURE);
+    }
+    return reply;
+}
+
+// The four steps.
+static void begin(struct depot *depot, uint32_t handler) { take(depot, handler, ZIDLEMOWO_BEGIN, 0, ZIDLEMOWO_OK); }
+
+static uint64_t read_site(struct depot *depot, uint32_t handler, uint32_t site) {
+    return take(depot, handler, zidlemowo_read_code(site), 0, ZIDLEMOWO_VALUE);
+}
+
+static void write_site(struct depot *depot, uint32_t handler, uint32_t site, uint32_t mast) {
+    take(depot, handler, zidlemowo_write_code(site), mast, ZIDLEMOWO_OK);
+}
+
+static uint64_t try_to_commit(struct depot *depot, uint32_t handler) {
+    return take(depot, handler, ZIDLEMOWO_TRY, 0, ZIDLEMOWO_COMMIT);
+}
+
+// Says how a transaction ended, and whether it has to be begun anew. A spent number ends the program: no attempt would ever commit.
+static bool again(const char *who, uint64_t reply) {
+    if (!aborted(reply)) {
+        printf("%s: commit\n", who);
+        return false;
+    }
+    printf("%s: abort %" PRIu32 "\n", who, zidlemowo_detail(reply));
+    if (zidlemowo_detail(reply) == ZIDLEMOWO_SPENT) {
+        exit(EXIT_FAILURE);
+    }
+    return true;
+}
+
+// The north feed reports the mast that stands at its site.
+static void report(struct depot *depot, uint32_t mast) {
+    printf("north feed: mast %" PRIu32 " stands here\n", mast);
+    do {
+        begin(depot, NORTH_FEED);
+        write_site(depot, NORTH_FEED, NORTH, mast);
+    } while (again("north feed", try_to_commit(depot, NORTH_FEED)));
+}
+
+// The desk tries to bring the northern mast to the south site. The north feed reports the mast `meanwhile`, if any, before the try.
+static uint64_t move_south(struct depot *depot, uint32_t meanwhile) {
+    begin(depot, DESK);
+    const uint64_t found = read_site(depot, DESK, NORTH);
+    if (aborted(found)) {
+        return found;
+    }
+    printf("desk: mast %" PRIu32 " goes south\n", zidlemowo_detail(found));
+    write_site(depot, DESK, NORTH, 0);
+    write_site(depot, DESK, SOUTH, zidlemowo_detail(found));
+    if (meanwhile != 0) {
+        report(depot, meanwhile);
+    }
+    return try_to_commit(depot, DESK);
+}
+
+// The south feed looks at both sites in one transaction.
+static uint64_t look(struct depot *depot) {
+    begin(depot, SOUTH_FEED);
+    const uint64_t north = read_site(depot, SOUTH_FEED, NORTH);
+    if (aborted(north)) {
+        return north;
+    }
+    const uint64_t south = read_site(depot, SOUTH_FEED, SOUTH);
+    if (aborted(south)) {
+        return south;
+    }
+    printf("south feed: north %" PRIu32 ", south %" PRIu32 "\n", zidlemowo_detail(north), zidlemowo_detail(south));
+    return try_to_commit(depot, SOUTH_FEED);
+}
+
+int main(void) {
+    static struct depot depot;
+    const uint32_t refusal = zidlemowo_open(depot.words, LENGTH, SITES, HANDLERS);
+    if (refusal != 0) {
+        fprintf(stderr, "opening: refused %" PRIu32 "\n", refusal);
+        return EXIT_FAILURE;
+    }
+    printf("open: %d cells, %d handlers, %zu words\n", SITES, HANDLERS, LENGTH);
+
+    report(&depot, 7);
+    uint32_t meanwhile = 9;
+    while (again("desk", move_south(&depot, meanwhile))) {
+        meanwhile = 0;
+    }
+    while (again("south feed", look(&depot))) {
+    }
+    return EXIT_SUCCESS;
+}

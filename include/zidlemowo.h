@@ -1,0 +1,109 @@
+// The proved register for programs in C11 and C++17: three functions on words that the caller lends.
+//
+// A register has m cells (1 to 32) and n handlers (1 to 16). A handler runs one transaction at a time, in four steps: begin, read a
+// cell, write a cell, try to commit. Every reply, and every word left behind, is proved to be what docs/PROMISES.md promises, for
+// any words, handler, code and value: bad input is refused by number and changes nothing.
+//
+// Link with target/staticlib/libgateway.a, which `rt staticlib gateway` proves and builds for x86-64 Linux. It needs nothing of the
+// C library but memcpy and memset. examples/gateway.c is a whole program.
+//
+// The words. They belong to the caller, who may put them anywhere and copy, move, keep or free them between calls. They are lent
+// for the time of a call: nothing is kept, allocated or freed. A register lies in front of them (docs/LAYOUT.md); words beyond it
+// are never changed. The caller sees to it that `words` points to `length` words, aligned as a uint32_t is, that may be read and
+// written; it may be NULL where `length` is 0. Nothing else is asked of them: not that they were opened, nor that they are a register at all.
+//
+// Threads. No function takes a lock, and none keeps anything outside the words. One register takes one step at a time: two calls on
+// the same words must not overlap, an opening among them, and nothing else may read or write the words during a call. Calls on
+// different words may overlap.
+#ifndef ZIDLEMOWO_H
+#define ZIDLEMOWO_H
+
+#include <stddef.h> // size_t: how many words are lent
+#include <stdint.h> // uint32_t: a word; uint64_t: the reply to a step
+
+#ifdef __cplusplus
+extern "C" { // in C++ the functions keep their C names
+#endif
+
+// How large things may be.
+enum {
+    ZIDLEMOWO_MOST_CELLS = 32,     // the most cells: m is 1 to 32
+    ZIDLEMOWO_MOST_HANDLERS = 16,  // the most handlers: n is 1 to 16
+    ZIDLEMOWO_MOST_WORDS = 2642,   // the words of the largest register, m = 32 and n = 16
+    ZIDLEMOWO_MOST_NUMBER = 65535, // the largest number of a cell, a handler or a transaction
+};
+
+// The words of a register of m cells and n handlers, both in range, as a constant, to declare an array with: 2 + m(m+1) + n(3+3m).
+#define ZIDLEMOWO_WORDS(m, n) (2u + (m) * ((m) + 1u) + (n) * (3u + 3u * (m)))
+
+// Step codes. Every other number is unknown and is refused with 15.
+enum {
+    ZIDLEMOWO_BEGIN = 0,     // begin: opens the handler's transaction
+    ZIDLEMOWO_TRY = 1,       // try to commit: ends the transaction with a commit or an abort
+    ZIDLEMOWO_READ = 32,     // 32 to 63 read cell (code - 32): this is cell 0's, zidlemowo_read_code gives any cell's
+    ZIDLEMOWO_WRITE = 64,    // 64 to 95 write cell (code - 64): this is cell 0's, zidlemowo_write_code gives any cell's
+    ZIDLEMOWO_NO_CODE = 256, // stands for no step, being above 255: what a cell that no code names, 32 or above, gets
+};
+
+// Kinds of reply to a step.
+enum {
+    ZIDLEMOWO_OK = 0,      // ok: a begin or a write was done; the detail is 0
+    ZIDLEMOWO_VALUE = 1,   // value: what a read found; the detail is the value
+    ZIDLEMOWO_COMMIT = 2,  // commit: a try stored what the transaction wrote and ended it; the detail is 0
+    ZIDLEMOWO_ABORT = 3,   // abort: the transaction is ended, nothing of it is kept; the detail is the reason
+    ZIDLEMOWO_REFUSED = 4, // refused: nothing is changed; the detail is the refusal
+};
+
+// Reasons of an abort, which are outcomes and no mistakes. After 1 or 2 the transaction may be begun anew.
+enum {
+    ZIDLEMOWO_TORN = 1,      // a first read: the cell depends on a later version of a cell already read
+    ZIDLEMOWO_OVERTAKEN = 2, // a try: a cell that was read has another number now
+    ZIDLEMOWO_SPENT = 3,     // a try, no cell overtaken: a written cell's number stands at 65,535, and so for good
+};
+
+// Refusals. A step is checked in the order 10, 15, 11, 12, then 13 or 14; an opening in the order 20, 21. The first that holds is
+// given.
+enum {
+    ZIDLEMOWO_NOT_WELL_FORMED = 10, // a step: the words are no well-formed register, or too short for one
+    ZIDLEMOWO_NO_HANDLER = 11,      // a step: handler n or above
+    ZIDLEMOWO_NO_CELL = 12,         // a step: read or write of cell m or above
+    ZIDLEMOWO_ALREADY_OPEN = 13,    // a step: begin while open
+    ZIDLEMOWO_NOT_OPEN = 14,        // a step: read, write or try while idle
+    ZIDLEMOWO_UNKNOWN_STEP = 15,    // a step: a code that stands for no step
+    ZIDLEMOWO_OUT_OF_RANGE = 20,    // an opening: m or n out of range
+    ZIDLEMOWO_TOO_SHORT = 21,       // an opening: a buffer shorter than the register
+};
+
+// The words that a register of m cells and n handlers needs; 0 where m or n is out of range.
+uint32_t zidlemowo_length(uint32_t m, uint32_t n);
+
+// Opens a register of m cells and n handlers in front of `length` words, whatever they hold: all values, numbers, phases, sets and
+// copies are 0. Gives 0 for ready, or the refusal, ZIDLEMOWO_OUT_OF_RANGE or ZIDLEMOWO_TOO_SHORT, which changes nothing.
+uint32_t zidlemowo_open(uint32_t *words, size_t length, uint32_t m, uint32_t n);
+
+// Takes the step of a handler (0 to n - 1) on the register in front of `length` words. `value` is what a write writes; no other
+// step looks at it. Gives kind * 2^32 + detail, which zidlemowo_kind and zidlemowo_detail take apart.
+uint64_t zidlemowo_step(uint32_t *words, size_t length, uint32_t handler, uint32_t code, uint32_t value);
+
+// The kind of a reply to a step: ZIDLEMOWO_OK to ZIDLEMOWO_REFUSED.
+static inline uint32_t zidlemowo_kind(uint64_t reply) { return (uint32_t)(reply >> 32); }
+
+// The detail of a reply to a step: the value read, the reason of an abort, the refusal, or 0.
+static inline uint32_t zidlemowo_detail(uint64_t reply) { return (uint32_t)(reply & UINT32_MAX); }
+
+// The code of a cell in the range that begins with `first`. A cell of 32 or above would get the code of another step: it gets none.
+static inline uint32_t zidlemowo_cell_code(uint32_t first, uint32_t cell) {
+    return cell < (uint32_t)ZIDLEMOWO_MOST_CELLS ? first + cell : (uint32_t)ZIDLEMOWO_NO_CODE;
+}
+
+// The code that reads a cell.
+static inline uint32_t zidlemowo_read_code(uint32_t cell) { return zidlemowo_cell_code(ZIDLEMOWO_READ, cell); }
+
+// The code that writes a cell.
+static inline uint32_t zidlemowo_write_code(uint32_t cell) { return zidlemowo_cell_code(ZIDLEMOWO_WRITE, cell); }
+
+#ifdef __cplusplus
+}
+#endif
+
+#endif
