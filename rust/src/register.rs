@@ -246,7 +246,8 @@ impl<'a> Register<'a> {
     }
 
     /// Takes up the handler's open transaction with a closure and goes on as [`transact`](Register::transact) does: a try to
-    /// commit, and after an abort everything anew. What was read and written before belongs to the transaction still.
+    /// commit, and after an abort everything anew. What was read and written before belongs to the transaction still. Where none is
+    /// open, the closure's steps and the try are refused with 14.
     ///
     /// ```
     /// use zidlemowo::{NotCommitted, Refusal, Register, Stopped};

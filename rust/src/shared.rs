@@ -58,7 +58,8 @@ impl<'a> Shared<'a> {
         self.register.into_inner().unwrap_or_else(PoisonError::into_inner)
     }
 
-    /// The register for as long as the guard is held, when no one else takes a step.
+    /// The register for as long as the guard is held, when no one else takes a step: whoever holds it and calls another method of
+    /// the same `Shared` waits for itself.
     ///
     /// ```
     /// # use zidlemowo::{Register, Shared};

@@ -74,7 +74,7 @@ fn a_spent_cell_is_given_at_once() {
     let mut words = Register::new(2, 1).expect("in range").words().to_vec();
     words[3] = 65_535;
     let (mut register, mut count) = (Register::resume(&mut words), 0);
-    let result = register.transact(0, u32::MAX, |transaction| {
+    let result = register.transact(0, 1_000, |transaction| {
         count += 1;
         transaction.write(0, 5)
     });
