@@ -1,0 +1,44 @@
+//! The proved transactional register as a safe library: cells that handlers read and change in transactions, one step at a time.
+//!
+//! Every reply and every word left behind is given by the proved functions of the static library; this crate adds types, and the
+//! order of steps in [`Register::transact`]. It can be handed any words, handler, cell and code: the worst answer is a [`Refusal`].
+//!
+//! ```
+//! use zidlemowo::{Register, Stopped};
+//!
+//! // Two slots of the depot, and two handlers: the desk is handler 0, a feed is handler 1.
+//! let mut register = Register::new(2, 2)?;
+//!
+//! // The feed puts mast 17 into slot 0, step by step.
+//! register.begin(1)?;
+//! register.write(1, 0, 17)?;
+//! assert_eq!(register.try_commit(1), Ok(Ok(())));
+//!
+//! // The desk moves it to slot 1, as one transaction of at most three attempts.
+//! let moved = register.transact(0, 3, |transaction| -> Result<u32, Stopped> {
+//!     let mast = transaction.read(0)?;
+//!     transaction.write(0, 0)?;
+//!     transaction.write(1, mast)?;
+//!     Ok(mast)
+//! })?;
+//! assert_eq!(moved, 17);
+//! # Ok::<(), Box<dyn std::error::Error>>(())
+//! ```
+//!
+//! A refusal is an error: nothing was changed. An abort is a normal outcome of a read or a try: it ends the transaction, of which
+//! nothing is kept. So a step that can abort gives a result within a result, as in `Ok(Err(Abort::Overtaken))`.
+#![deny(missing_docs, unsafe_code)]
+
+#[allow(unsafe_code)]
+mod raw;
+mod register;
+mod replies;
+mod shared;
+mod step;
+mod transact;
+
+pub use register::{needed, Register};
+pub use replies::{Abort, Refusal, Reply};
+pub use shared::Shared;
+pub use step::Step;
+pub use transact::{NotCommitted, Stopped, Transaction};

@@ -1,0 +1,286 @@
+//! A register over its own words or over words that are lent, and its steps.
+use crate::raw;
+use crate::replies::{Abort, Refusal, Reply};
+use crate::step::Step;
+use crate::transact::{self, NotCommitted, Transaction};
+
+/// The words that a register of so many cells and handlers needs; none where either is out of range.
+///
+/// ```
+/// assert_eq!(zidlemowo::needed(2, 1), Some(17));
+/// assert_eq!(zidlemowo::needed(33, 1), None);
+/// ```
+pub fn needed(cells: u32, handlers: u32) -> Option<usize> {
+    match raw::length(cells, handlers) {
+        0 => None,
+        count => Some(count as usize),
+    }
+}
+
+#[derive(Debug)]
+enum Words<'a> {
+    Own(Vec<u32>),
+    Lent(&'a mut [u32]),
+}
+
+/// A register of 1 to 32 cells and 1 to 16 handlers.
+///
+/// Its whole state is its words, laid out as `docs/LAYOUT.md` says; nothing is kept beside them.
+#[derive(Debug)]
+pub struct Register<'a> {
+    words: Words<'a>,
+}
+
+impl Register<'static> {
+    /// A fresh register with words of its own; refused with 20 where cells or handlers are out of range.
+    ///
+    /// ```
+    /// use zidlemowo::{Refusal, Register};
+    ///
+    /// assert_eq!(Register::new(2, 1)?.words().len(), 17);
+    /// assert_eq!(Register::new(33, 1).unwrap_err(), Refusal::OutOfRange);
+    /// # Ok::<(), Refusal>(())
+    /// ```
+    pub fn new(cells: u32, handlers: u32) -> Result<Register<'static>, Refusal> {
+        let mut words = vec![0; needed(cells, handlers).unwrap_or(0)];
+        raw::open(&mut words, cells, handlers)?;
+        Ok(Register { words: Words::Own(words) })
+    }
+}
+
+impl<'a> Register<'a> {
+    /// Opens a fresh register in words that are lent; words behind it stay as they are. Refused with 20 or 21, the words unchanged.
+    ///
+    /// ```
+    /// use zidlemowo::{Refusal, Register};
+    ///
+    /// let mut words = [7; 18];
+    /// let register = Register::open(&mut words, 2, 1)?;
+    /// assert_eq!(register.words()[..3], [2, 1, 0]);
+    /// assert_eq!(words[17], 7);
+    /// assert_eq!(Register::open(&mut words[..16], 2, 1).unwrap_err(), Refusal::TooShort);
+    /// # Ok::<(), Refusal>(())
+    /// ```
+    pub fn open(words: &'a mut [u32], cells: u32, handlers: u32) -> Result<Register<'a>, Refusal> {
+        raw::open(words, cells, handlers)?;
+        Ok(Register::resume(words))
+    }
+
+    /// Takes words that are a register already. They are not looked at here: where they are none, every step is refused with 10.
+    ///
+    /// ```
+    /// use zidlemowo::{Refusal, Register};
+    ///
+    /// let mut first = Register::new(1, 1)?;
+    /// first.begin(0)?;
+    /// first.write(0, 0, 5)?;
+    ///
+    /// let mut kept = first.words().to_vec();
+    /// let mut second = Register::resume(&mut kept);
+    /// assert_eq!(second.read(0, 0), Ok(Ok(5)));
+    /// assert_eq!(Register::resume(&mut []).begin(0), Err(Refusal::NotWellFormed));
+    /// # Ok::<(), Refusal>(())
+    /// ```
+    pub fn resume(words: &'a mut [u32]) -> Register<'a> {
+        Register { words: Words::Lent(words) }
+    }
+
+    /// The words, with those behind the register.
+    ///
+    /// ```
+    /// assert_eq!(zidlemowo::Register::new(1, 1)?.words(), [1, 1, 0, 0, 0, 0, 0, 0, 0, 0]);
+    /// # Ok::<(), zidlemowo::Refusal>(())
+    /// ```
+    pub fn words(&self) -> &[u32] {
+        match &self.words {
+            Words::Own(words) => words,
+            Words::Lent(words) => words,
+        }
+    }
+
+    /// Takes the step that a code stands for, whatever the code; `value` matters to a write alone.
+    ///
+    /// ```
+    /// use zidlemowo::{Refusal, Register, Reply};
+    ///
+    /// let mut register = Register::new(2, 1)?;
+    /// assert_eq!(register.step(0, 0, 0), Reply::Done);
+    /// assert_eq!(register.step(0, 64, 5), Reply::Done);
+    /// assert_eq!(register.step(0, 32, 0), Reply::Value(5));
+    /// assert_eq!(register.step(0, 255, 0), Reply::Refused(Refusal::UnknownStep));
+    /// # Ok::<(), Refusal>(())
+    /// ```
+    pub fn step(&mut self, handler: u32, code: u32, value: u32) -> Reply {
+        let words = match &mut self.words {
+            Words::Own(words) => words,
+            Words::Lent(words) => &mut **words,
+        };
+        raw::step(words, handler, code, value)
+    }
+
+    /// Takes a step.
+    ///
+    /// ```
+    /// use zidlemowo::{Register, Reply, Step};
+    ///
+    /// let mut register = Register::new(2, 1)?;
+    /// assert_eq!(register.take(0, Step::Begin), Reply::Done);
+    /// assert_eq!(register.take(0, Step::Read(1)), Reply::Value(0));
+    /// assert_eq!(register.take(0, Step::Try), Reply::Committed);
+    /// # Ok::<(), zidlemowo::Refusal>(())
+    /// ```
+    pub fn take(&mut self, handler: u32, step: Step) -> Reply {
+        match step.code() {
+            Some(code) => self.step(handler, code, step.value()),
+            None => self.beyond_all_cells(handler),
+        }
+    }
+
+    /// The reply to a read or write of a cell that no code names: the first of 10, 11 and 12 that holds.
+    fn beyond_all_cells(&mut self, handler: u32) -> Reply {
+        match self.step(handler, u32::MAX, 0) {
+            // An unknown code is told so on a well-formed register alone, and there word 1 is the number of handlers.
+            Reply::Refused(Refusal::UnknownStep) if handler >= self.words()[1] => Reply::Refused(Refusal::NoHandler),
+            Reply::Refused(Refusal::UnknownStep) => Reply::Refused(Refusal::NoCell),
+            not_well_formed => not_well_formed,
+        }
+    }
+
+    /// Begins a transaction of the handler.
+    ///
+    /// ```
+    /// use zidlemowo::{Refusal, Register};
+    ///
+    /// let mut register = Register::new(2, 1)?;
+    /// assert_eq!(register.begin(0), Ok(()));
+    /// assert_eq!(register.begin(0), Err(Refusal::AlreadyOpen));
+    /// # Ok::<(), Refusal>(())
+    /// ```
+    pub fn begin(&mut self, handler: u32) -> Result<(), Refusal> {
+        self.take(handler, Step::Begin).outcome().map(|_| ())
+    }
+
+    /// Reads a cell in the handler's transaction: its value, or the abort that has ended the transaction.
+    ///
+    /// ```
+    /// use zidlemowo::{Refusal, Register};
+    ///
+    /// let mut register = Register::new(2, 1)?;
+    /// assert_eq!(register.read(0, 1), Err(Refusal::NotOpen));
+    /// register.begin(0)?;
+    /// assert_eq!(register.read(0, 1), Ok(Ok(0)));
+    /// # Ok::<(), Refusal>(())
+    /// ```
+    pub fn read(&mut self, handler: u32, cell: u32) -> Result<Result<u32, Abort>, Refusal> {
+        self.take(handler, Step::Read(cell)).outcome()
+    }
+
+    /// Writes a cell in the handler's transaction; others see it once that has committed.
+    ///
+    /// ```
+    /// use zidlemowo::{Refusal, Register};
+    ///
+    /// let mut register = Register::new(2, 1)?;
+    /// register.begin(0)?;
+    /// assert_eq!(register.write(0, 1, 6), Ok(()));
+    /// assert_eq!(register.write(0, 2, 6), Err(Refusal::NoCell));
+    /// # Ok::<(), Refusal>(())
+    /// ```
+    pub fn write(&mut self, handler: u32, cell: u32, value: u32) -> Result<(), Refusal> {
+        self.take(handler, Step::Write(cell, value)).outcome().map(|_| ())
+    }
+
+    /// Tries to commit the handler's transaction, which is ended either way.
+    ///
+    /// ```
+    /// use zidlemowo::{Abort, Refusal, Register};
+    ///
+    /// let mut register = Register::new(2, 2)?;
+    /// register.begin(0)?;
+    /// assert_eq!(register.read(0, 0), Ok(Ok(0)));
+    /// register.begin(1)?;
+    /// register.write(1, 0, 5)?;
+    /// assert_eq!(register.try_commit(1), Ok(Ok(())));
+    /// assert_eq!(register.try_commit(0), Ok(Err(Abort::Overtaken)));
+    /// # Ok::<(), Refusal>(())
+    /// ```
+    pub fn try_commit(&mut self, handler: u32) -> Result<Result<(), Abort>, Refusal> {
+        self.take(handler, Step::Try).outcome().map(|tried| tried.map(|_| ()))
+    }
+
+    /// Runs a closure as one transaction of the handler: begin, the closure's reads and writes, and a try to commit. After an abort
+    /// it starts over, the closure with it, until it has been begun `attempts` times (once, for 0); then the last abort is given.
+    /// [`Abort::Spent`] is given at once, since starting over would not help.
+    ///
+    /// The register is the closure's for the whole of it, so no other handler comes between, and on a register that was opened
+    /// nothing but [`Abort::Spent`] is to be expected. Where handlers are to take turns, use [`Shared`](crate::Shared).
+    ///
+    /// **Where the closure gives up** with an error, or panics, no further step is taken. None of the four steps ends a
+    /// transaction for certain without a commit; so it stays open, no cell is changed, and the next begin of this handler is
+    /// refused with 13. [`carry_on`](Register::carry_on) takes it up again. If nothing was written in it,
+    /// [`try_commit`](Register::try_commit) ends it without a change to any cell: so decide from reads, before the first write.
+    ///
+    /// ```
+    /// use zidlemowo::{NotCommitted, Refusal, Register, Stopped};
+    ///
+    /// let mut register = Register::new(2, 1)?;
+    /// let raised = register.transact(0, 3, |transaction| -> Result<u32, Stopped> {
+    ///     let value = transaction.read(0)? + 1;
+    ///     transaction.write(0, value)?;
+    ///     Ok(value)
+    /// });
+    /// assert_eq!(raised, Ok(1));
+    ///
+    /// let no_cell = register.transact(0, 3, |transaction| transaction.read(2));
+    /// assert_eq!(no_cell, Err(NotCommitted::GaveUp(Stopped::Refused(Refusal::NoCell))));
+    /// assert_eq!(register.begin(0), Err(Refusal::AlreadyOpen));
+    /// # Ok::<(), Refusal>(())
+    /// ```
+    pub fn transact<T, E>(
+        &mut self,
+        handler: u32,
+        attempts: u32,
+        closure: impl FnMut(&mut Transaction<'_>) -> Result<T, E>,
+    ) -> Result<T, NotCommitted<E>> {
+        transact::transact(&mut |handler, step| self.take(handler, step), handler, attempts, closure)
+    }
+
+    /// Takes up the handler's open transaction with a closure and goes on as [`transact`](Register::transact) does: a try to
+    /// commit, and after an abort everything anew. What was read and written before belongs to the transaction still. Where none is
+    /// open, the closure's steps and the try are refused with 14.
+    ///
+    /// ```
+    /// use zidlemowo::{NotCommitted, Refusal, Register, Stopped};
+    ///
+    /// #[derive(Debug, PartialEq)]
+    /// enum Desk {
+    ///     Stopped(Stopped),
+    ///     Closed,
+    /// }
+    /// impl From<Stopped> for Desk {
+    ///     fn from(stopped: Stopped) -> Desk {
+    ///         Desk::Stopped(stopped)
+    ///     }
+    /// }
+    ///
+    /// let mut register = Register::new(2, 1)?;
+    /// let given_up = register.transact(0, 1, |transaction| -> Result<(), Desk> {
+    ///     transaction.write(0, 17)?;
+    ///     Err(Desk::Closed)
+    /// });
+    /// assert_eq!(given_up, Err(NotCommitted::GaveUp(Desk::Closed)));
+    ///
+    /// // Later the desk opens again, and finishes what it had begun.
+    /// assert_eq!(register.carry_on(0, 1, |transaction| transaction.read(0)), Ok(17));
+    /// assert_eq!(register.begin(0), Ok(()));
+    /// # Ok::<(), Refusal>(())
+    /// ```
+    pub fn carry_on<T, E>(
+        &mut self,
+        handler: u32,
+        attempts: u32,
+        closure: impl FnMut(&mut Transaction<'_>) -> Result<T, E>,
+    ) -> Result<T, NotCommitted<E>> {
+        transact::carry_on(&mut |handler, step| self.take(handler, step), handler, attempts, closure)
+    }
+}

@@ -1,0 +1,81 @@
+//! The four steps and their codes.
+
+/// A step of a handler.
+///
+/// ```
+/// use zidlemowo::Step;
+///
+/// assert_eq!(Step::Begin.code(), Some(0));
+/// assert_eq!(Step::Try.code(), Some(1));
+/// assert_eq!(Step::Read(31).code(), Some(63));
+/// assert_eq!(Step::Write(0, 5).code(), Some(64));
+/// ```
+#[derive(Clone, Copy, Debug, PartialEq, Eq, Hash)]
+pub enum Step {
+    /// Begin a transaction.
+    Begin,
+    /// Read a cell.
+    Read(u32),
+    /// Write into a cell a value.
+    Write(u32, u32),
+    /// Try to commit.
+    Try,
+}
+
+/// How many cells have codes.
+const CODED: u32 = 32;
+
+impl Step {
+    /// The code that stands for the step; none where it names a cell that no register has, and so no code stands for it.
+    ///
+    /// ```
+    /// // 32 + 32 would be the code of a write.
+    /// assert_eq!(zidlemowo::Step::Read(32).code(), None);
+    /// ```
+    pub fn code(self) -> Option<u32> {
+        match self {
+            Step::Begin => Some(0),
+            Step::Try => Some(1),
+            Step::Read(cell) if cell < CODED => Some(32 + cell),
+            Step::Write(cell, _) if cell < CODED => Some(64 + cell),
+            Step::Read(_) | Step::Write(..) => None,
+        }
+    }
+
+    /// The value that is written; 0 for a step that writes none.
+    ///
+    /// ```
+    /// assert_eq!(zidlemowo::Step::Write(0, 5).value(), 5);
+    /// ```
+    pub fn value(self) -> u32 {
+        match self {
+            Step::Write(_, value) => value,
+            Step::Begin | Step::Read(_) | Step::Try => 0,
+        }
+    }
+}
+
+#[cfg(test)]
+mod tests {
+    use super::*;
+    use crate::{Refusal, Register, Reply};
+    use std::collections::BTreeSet;
+
+    #[test]
+    fn the_codes_are_those_that_the_register_knows() {
+        let cells = (0..CODED).flat_map(|cell| [Step::Read(cell), Step::Write(cell, 7)]);
+        let codes: BTreeSet<u32> = cells.chain([Step::Begin, Step::Try]).filter_map(Step::code).collect();
+        assert_eq!(codes.len(), 66);
+        for code in (0..300).chain([u32::MAX]) {
+            let reply = Register::new(32, 1).expect("in range").step(0, code, 0);
+            assert_eq!(reply != Reply::Refused(Refusal::UnknownStep), codes.contains(&code), "code {code}");
+        }
+    }
+
+    #[test]
+    fn no_code_stands_for_a_cell_that_no_register_has() {
+        for cell in [32, 33, 63, 64, u32::MAX - 32, u32::MAX] {
+            assert_eq!((Step::Read(cell).code(), Step::Write(cell, 7).code()), (None, None), "cell {cell}");
+        }
+    }
+}

@@ -1,0 +1,81 @@
+//! The numbers and words of the replies are those of docs/REPLIES.md, read from its tables, and lead there and back.
+use std::fs;
+use zidlemowo::{Abort, Refusal, Reply};
+
+/// The rows of the table below a heading: a number, and the entries behind it.
+fn rows(heading: &str) -> Vec<(u32, Vec<String>)> {
+    let path = concat!(env!("CARGO_MANIFEST_DIR"), "/../docs/REPLIES.md");
+    let text = fs::read_to_string(path).expect("docs/REPLIES.md");
+    let section = text.split("\n## ").find(|section| section.starts_with(heading)).expect(heading);
+    let entries = section.lines().filter(|line| line.starts_with('|'));
+    let split = entries.map(|line| line.trim_matches('|').split('|').map(|entry| entry.trim().to_owned()).collect::<Vec<_>>());
+    split.filter_map(|row| Some((row[0].parse().ok()?, row[1..].to_vec()))).collect()
+}
+
+/// A row's name, as the enums write it.
+fn capital(name: &str) -> String {
+    let name = name.trim_matches('`');
+    name[..1].to_uppercase() + &name[1..]
+}
+
+/// Whether what is displayed is the number and the beginning of the document's words.
+fn says(displayed: &str, kind: &str, number: u32, document: &str) -> bool {
+    let inner = displayed.strip_prefix(&format!("{kind} {number} (")).and_then(|rest| rest.strip_suffix(')'));
+    inner.is_some_and(|words| !words.is_empty() && document.starts_with(words))
+}
+
+#[test]
+fn aborts_are_the_documents() {
+    let rows = rows("Reasons of an abort");
+    assert_eq!(rows.iter().map(|row| row.0).collect::<Vec<_>>(), Abort::ALL.map(Abort::number));
+    for (number, entries) in rows {
+        let abort = Abort::from_number(number).expect("an abort");
+        assert_eq!(format!("{abort:?}"), capital(&entries[0]));
+        assert!(says(&abort.to_string(), "abort", number, &entries[1]), "{abort}");
+    }
+}
+
+#[test]
+fn refusals_are_the_documents() {
+    let rows = rows("Refusals");
+    assert_eq!(rows.iter().map(|row| row.0).collect::<Vec<_>>(), Refusal::ALL.map(Refusal::number));
+    for (number, entries) in rows {
+        let refusal = Refusal::from_number(number).expect("a refusal");
+        assert_eq!(format!("{refusal:?}"), capital(&entries[0]));
+        assert!(says(&refusal.to_string(), "refused", number, &entries[1]), "{refusal}");
+    }
+}
+
+#[test]
+fn kinds_are_the_documents() {
+    let words = rows("Kinds of reply").into_iter().map(|(kind, entries)| (kind, entries[0].clone()));
+    let first = |words: String| words.split([':', ' ']).next().unwrap_or_default().to_owned();
+    let documented: Vec<(u32, String)> = words.map(|(kind, words)| (kind, first(words))).collect();
+    let replies = [Reply::Done, Reply::Value(7), Reply::Committed, Reply::Aborted(Abort::Torn), Reply::Refused(Refusal::NoCell)];
+    assert_eq!(documented, replies.map(|reply| (reply.kind(), first(reply.to_string()))));
+}
+
+#[test]
+fn every_reply_leads_to_its_numbers_and_back() {
+    let values = [0, 1, 65_535, u32::MAX].map(Reply::Value);
+    let aborts = Abort::ALL.map(Reply::Aborted);
+    let refusals = Refusal::ALL.map(Reply::Refused);
+    let others = [Reply::Done, Reply::Committed];
+    for reply in others.into_iter().chain(values).chain(aborts).chain(refusals) {
+        assert_eq!(Reply::from_numbers(reply.kind(), reply.detail()), Some(reply));
+    }
+}
+
+#[test]
+fn numbers_that_stand_for_nothing_give_nothing() {
+    for number in (0..1_000).chain([u32::MAX]) {
+        assert_eq!(Abort::from_number(number).map_or(number, Abort::number), number);
+        assert_eq!(Abort::from_number(number).is_some(), (1..=3).contains(&number));
+        assert_eq!(Refusal::from_number(number).map_or(number, Refusal::number), number);
+        assert_eq!(Reply::from_numbers(5, number), None);
+        assert_eq!(Reply::from_numbers(0, number).is_some(), number == 0);
+        assert_eq!(Reply::from_numbers(2, number).is_some(), number == 0);
+        assert_eq!(Reply::from_numbers(3, number).is_some(), Abort::from_number(number).is_some());
+        assert_eq!(Reply::from_numbers(4, number).is_some(), Refusal::from_number(number).is_some());
+    }
+}
