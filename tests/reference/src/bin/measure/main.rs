@@ -8,6 +8,10 @@ mod sides;
 
 use std::fs;
 
+const HEAD: &str = "\
+|  m,  n | what                                         | instructions |    reference | ratio |  nanoseconds |    reference | ratio |
+|-------:|:---------------------------------------------|-------------:|-------------:|------:|-------------:|-------------:|------:|";
+
 /// A number with a comma before each three digits.
 fn grouped(number: f64) -> String {
     let digits = format!("{number:.0}");
@@ -37,21 +41,21 @@ fn table(counts: &str, schedule: &str, paths: [&str; 4]) {
     let rows = rows::all();
     assert_eq!(counts.len(), 2 * rows.len() + 4, "a count for each row and side, and for four programs");
     let (of_rows, of_programs) = counts.split_at(2 * rows.len());
-    println!("|  m,  n | what                                         | instructions |    reference | ratio |  nanoseconds |    reference | ratio |");
-    println!("|-------:|:---------------------------------------------|-------------:|-------------:|------:|-------------:|-------------:|------:|");
+    println!("{HEAD}");
     for (row, count) in rows.iter().zip(of_rows.chunks(2)) {
         line(&format!("{:>2}, {:>2}", row.m, row.n), row.name, [count[0], count[1]], sides::timed(row));
     }
     let places = programs::places(&fs::read(schedule).expect("the schedule is there"));
     let mut memory = Vec::new();
-    for (name, which) in [("the runner", 0), ("the judge", 2)] {
+    for (name, far, which) in [("the runner", format!("{places} places"), 0), ("the judge", "to a 65th commit".into(), 2)] {
         let needed = programs::beside([paths[which], paths[which + 1]], schedule);
         let count = [of_programs[which], of_programs[which + 1]];
-        line("32, 16", &format!("{name}, {places} places, whole program"), count, needed.map(|needed| needed.nanoseconds));
+        line("32, 16", &format!("{name}, {far}, whole program"), count, needed.map(|needed| needed.nanoseconds));
         memory.push((name, needed.map(|needed| needed.memory as f64)));
     }
     for (name, memory) in memory {
-        println!("| 32, 16 | {:<44} | {} | {:>12} | {:>12} | {:>5} |", format!("{name}, peak memory in KiB"), compared(memory, grouped), "", "", "");
+        let what = format!("{name}, peak memory in KiB");
+        println!("| 32, 16 | {what:<44} | {} | {:>12} | {:>12} | {:>5} |", compared(memory, grouped), "", "", "");
     }
 }
 
