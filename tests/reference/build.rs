@@ -1,4 +1,4 @@
-//! The comparison links the static library of the proved register, whose folder ZIDLEMOWO_LIB names.
+//! Comparison and measurement link the static library of the proved register, whose folder ZIDLEMOWO_LIB names.
 fn main() {
     println!("cargo:rerun-if-env-changed=ZIDLEMOWO_LIB");
     if std::env::var_os("CARGO_FEATURE_PROVED").is_some() {

@@ -1,16 +1,17 @@
--- Laws of faults: how they add up, turn by turn and part by part, and what they are of one number, one phase and one set.
+-- Laws of faults: how they are joined, turn by turn and part by part, and what they are of one number, one phase and one set.
 use Prim.Native.Nat.{ℕ, _+_, _*_, _/_, _^_, _≤_, _<_}
-use mathlib.Core.Path.{_≡_, refl, subst}
+use mathlib.Core.Path.{_≡_, refl, sym, subst}
 use mathlib.Core.Logic.{_↔_, Iff·rfl, Iff·symm, Iff·trans}
 use native.Mathlib.Omega.{arith}
 use native.Mathlib.Nat.{div-lt-iff-lt-mul}
+use lib.Bits.{bitOr, or-add-and, and-le-l, and-le-r, or-shr}
 use lib.Pow.{pow-pos, shr-le}
 use borrow.Author.Count.{below-more}
 use Rattle.layout.specs.WellFormed.{NoBitFrom}
 use Rattle.layout.proofs.Bits.{no-bit-from}
 use Rattle.formed.specs.Faults.{Faults}
 
--- ── Sums ──────────────────────────────────────────────────────────────
+-- ── Joined ────────────────────────────────────────────────────────────
 
 -- The faults of two statements are those of both.
 pub faults-both : {most faults most′ faults′ : ℕ} {Good Good′ : Type 0} → Faults most Good faults → Faults most′ Good′ faults′
@@ -25,6 +26,28 @@ faults-both {faults = faults} {faults′ = faults′} {Good = Good} {Good′ = G
 
     from : Good × Good′ → faults + faults′ ≡ 0
     from h = omega (arith, first .none .1 (h .0), second .none .1 (h .1))
+
+-- So are the bits of both laid over each other, which are no more than the sum.
+pub faults-over : {most faults most′ faults′ : ℕ} {Good Good′ : Type 0} → Faults most Good faults → Faults most′ Good′ faults′
+    → Faults (most + most′) (Good × Good′) (bitOr faults faults′)
+faults-over {most} {faults} {most′} {faults′} {Good} {Good′} first second = record {
+  small = omega (arith, summed .small, or-add-and faults faults′);
+  none = Iff·trans (to, from) (summed .none);
+}
+  where
+    summed : Faults (most + most′) (Good × Good′) (faults + faults′)
+    summed = faults-both first second
+
+    to : bitOr faults faults′ ≡ 0 → faults + faults′ ≡ 0
+    to e = omega (arith, or-add-and faults faults′, and-le-l faults faults′, and-le-r faults faults′)
+
+    from : faults + faults′ ≡ 0 → bitOr faults faults′ ≡ 0
+    from e = omega (arith, or-add-and faults faults′)
+
+-- What two words laid over each other say from bit k on is what both say there.
+pub faults-above : (k word word′ : ℕ) {most most′ : ℕ} {Good Good′ : Type 0} → Faults most Good (word / 2 ^ k) → Faults most′ Good′ (word′ / 2 ^ k)
+    → Faults (most + most′) (Good × Good′) (bitOr word word′ / 2 ^ k)
+faults-above k word word′ first second = subst (Faults _ _) (sym (or-shr word word′ k)) (faults-over first second)
 
 -- Faults of a statement are those of one that says the same, and stay below a larger bound.
 pub faults-same : {most most′ faults : ℕ} {Good Good′ : Type 0} → most ≤ most′ → Good ↔ Good′ → Faults most Good faults → Faults most′ Good′ faults
@@ -45,9 +68,9 @@ module _ (each : ℕ) (Good : ℕ → Type 0) where
   pub gathered-none : Gathered 0 0
   gathered-none = record { small = omega arith; none = (λ e y h. absurd (omega arith), λ good. refl) }
 
-  -- One more place is looked at.
-  pub gathered-more : {i faults more : ℕ} → Gathered i faults → Faults each (Good i) more → Gathered (i + 1) (faults + more)
-  gathered-more {i} before now = faults-same (omega arith) (to, from) (faults-both before now)
+  -- One more place is looked at, and its faults are joined to what was gathered.
+  pub gathered-more : {i faults : ℕ} → Faults (each * i + each) (EachBelow i Good × Good i) faults → Gathered (i + 1) faults
+  gathered-more {i} = faults-same (omega arith) (to, from)
     where
       to : EachBelow i Good × Good i → EachBelow (i + 1) Good
       to h = below-more Good i (h .0) (h .1)

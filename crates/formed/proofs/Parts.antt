@@ -5,6 +5,7 @@ use mathlib.Core.List.{List}
 use mathlib.Core.Bool.{false}
 use mathlib.Core.Logic.{_↔_}
 use native.Mathlib.Omega.{arith}
+use lib.Bits.{bitOr}
 use lib.Dec.{ltb}
 use lib.ListN.{length, getD, take, drop}
 use borrow.Author.Tests.{ltb-true, ltb-false}
@@ -16,7 +17,7 @@ use Rattle.layout.specs.WellFormed.{NoBitFrom, GoodBlock}
 use Rattle.layout.proofs.Rows.{part-at, part-length}
 use Rattle.layout.proofs.Places.{cell-fits, cell-start-small, handler-fits, handler-start-small}
 use Rattle.formed.specs.Faults.{Faults, rowMost, blockMost}
-use Rattle.formed.proofs.Gathers.{EachBelow, faults-both, faults-same, phase-faults, set-faults}
+use Rattle.formed.proofs.Gathers.{EachBelow, faults-both, faults-above, faults-same, phase-faults, set-faults}
 
 -- The same place has the same word.
 same-word : (words : List ℕ) {a b : ℕ} → a ≡ b → getD words a 0 ≡ getD words b 0
@@ -109,7 +110,7 @@ block-lent m i words = lent-is (blockFrom m i) (handlerLong m) words ∙ ap (λ 
 -- All that is looked at in a block: its phase, its sets, and its numbers as one row.
 abbrev Looked : ℕ → List ℕ → Type 0
 Looked m block =
-    (((phaseIn block ≤ 1) × NoBitFrom m (readSetIn block)) × NoBitFrom m (writtenSetIn block)) × Fit (2 * m) (handlerNumberIn block)
+    ((phaseIn block ≤ 1) × (NoBitFrom m (readSetIn block) × NoBitFrom m (writtenSetIn block))) × Fit (2 * m) (handlerNumberIn block)
 
 -- What is looked at is good just when the block is.
 looked-good : (m : ℕ) (block : List ℕ) → Looked m block ↔ GoodBlock m block
@@ -120,7 +121,7 @@ looked-good m block = (to, from)
     second y = same-word block (omega arith)
 
     to : Looked m block → GoodBlock m block
-    to (((phase, read), written), numbers) = record {
+    to ((phase, (read, written)), numbers) = record {
       phase = phase;
       readSet = read;
       writtenSet = written;
@@ -129,7 +130,7 @@ looked-good m block = (to, from)
     }
 
     from : GoodBlock m block → Looked m block
-    from good = (((good .phase, good .readSet), good .writtenSet), both)
+    from good = ((good .phase, (good .readSet, good .writtenSet)), both)
       where
         both : Fit (2 * m) (handlerNumberIn block)
         both y h = by (ltb y m) (λ e. good .numbers y (ltb-true y m e)) behind
@@ -140,13 +141,16 @@ looked-good m block = (to, from)
             behind : ltb y m ≡ false → handlerNumberIn block y ≤ 65535
             behind e = omega (arith, same-word block (here e), good .transaction (y - m) (omega (arith, ltb-false)))
 
--- The faults of a block whose words fit 32 bits are its phase's, its sets' and its row of numbers'.
+-- The faults of a block whose words fit 32 bits are its phase's, its sets' laid over each other, and its row of numbers'.
 pub block-sum : (m : ℕ) (block : List ℕ) → 3 + 2 * m ≤ length block → ((place : ℕ) → getD block place 0 < 2 ^ 32) → {numbers : ℕ}
     → Faults rowMost (RowFits (lent 3 (3 + 2 * m) block)) numbers
-    → Faults blockMost (GoodBlock m block) (phaseIn block / 2 + readSetIn block / 2 ^ m + writtenSetIn block / 2 ^ m + numbers)
+    → Faults blockMost (GoodBlock m block) (phaseIn block / 2 + bitOr (readSetIn block) (writtenSetIn block) / 2 ^ m + numbers)
 block-sum m block inside fits {numbers} row =
     faults-same (omega arith) (looked-good m block)
-    (faults-both (faults-both (faults-both (phase-faults _ (fits 0)) (set-faults m _ (fits 1))) (set-faults m _ (fits 2))) rest)
+    (faults-both (faults-both (phase-faults _ (fits 0)) sets) rest)
   where
+    sets : Faults (2 * 4294967295) (NoBitFrom m (readSetIn block) × NoBitFrom m (writtenSetIn block)) (bitOr (readSetIn block) (writtenSetIn block) / 2 ^ m)
+    sets = faults-above m _ _ (set-faults m _ (fits 1)) (set-faults m _ (fits 2))
+
     rest : Faults rowMost (Fit (2 * m) (handlerNumberIn block)) numbers
     rest = lent-faults 3 (2 * m) block inside (handlerNumberIn block) (λ y h. refl) row

@@ -8,16 +8,16 @@ ghost use Rattle.layout.specs.Places.{size, handlerLong, cellPart, handlerPart,
 ghost use Rattle.layout.specs.WellFormed.{GoodBlock, isWellFormed};
 ghost use Rattle.formed.specs.Faults.{Faults, rowMost, blockMost};
 
-// How far the numbers of a row lie above 65,535: 0 exactly where none does.
+// What the bits of a row's numbers say above 65,535, laid over each other: 0 exactly where no number lies there.
 fn row_faults(row: &[u32]) -> u32
     requires { ⌜ length (now row) ≤ 64 ⌝ }
     ensures { λ r. ⌜ Faults rowMost ((y : ℕ) → y < length (now (row .entry)) → getD (now (row .entry)) y 0 ≤ 65535) r ⌝ }
 {
-    let mut faults = 0u32;
+    let mut bits = 0u32;
     for y in 0..row.len() {
-        faults = faults + row[y] / 65536;
+        bits = bits | row[y];
     }
-    faults
+    bits / 65536
 }
 
 // The faults of one handler's block: its phase, its two sets and its two vectors of numbers.
@@ -26,11 +26,10 @@ fn block_faults(block: &[u32], m: usize) -> u64
     ensures { λ r. ⌜ Faults blockMost (GoodBlock m (now (block .entry))) r ⌝ }
 {
     let phase = block[0] / 2;
-    let read = (block[1] as u64) >> m;
-    let written = (block[2] as u64) >> m;
+    let sets = ((block[1] | block[2]) as u64) >> m;
     let end = 3 + 2 * m;
     let numbers = row_faults(&block[3..end]);
-    (phase as u64) + read + written + (numbers as u64)
+    (phase as u64) + sets + (numbers as u64)
 }
 
 // The faults of all cells.

@@ -9,6 +9,8 @@ pub mod hexadecimal;
 pub mod histories;
 pub mod judge;
 pub mod program;
+#[cfg(feature = "proved")]
+pub mod proved;
 pub mod random;
 pub mod register;
 pub mod schedule;

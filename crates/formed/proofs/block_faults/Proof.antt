@@ -1,6 +1,6 @@
 -- `formed::block_faults` meets its contract: all that makes a block good is looked at, and no sum of faults is too large.
 use native.Mathlib.Omega.{arith}
-use mir.Facts.{fits-32-64}
+use mir.Facts.{fits-32-64, fits-or}
 use borrow.Author.Needs.{needs}
 use Rattle.formed.proofs.Parts.{block-sum}
 use Rattle.formed.proofs.block_faults.Statement.{statement}
@@ -19,10 +19,8 @@ block-faults-spec =
     -- phase and sets
     (λ c. search needs)
     (λ c. search needs)
-    (λ c. fits-32-64 (c .shared-slice-known3 .given _))
     (λ c. search needs)
-    (λ c. search needs)
-    (λ c. fits-32-64 (c .shared-slice-known4 .given _))
+    (λ c. fits-32-64 (fits-or (c .before .shared-slice-known3 .given _) (c .shared-slice-known4 .given _)))
     (λ c. search needs)
     -- the row of numbers
     (λ c. search needs)
@@ -32,7 +30,6 @@ block-faults-spec =
     (λ c. search needs)
     (λ c κs. search needs)
     -- the sums
-    (λ c. omega (arith, returns c .small))
     (λ c. omega (arith, returns c .small))
     (λ c. omega (arith, returns c .small))
     (λ c. search needs)

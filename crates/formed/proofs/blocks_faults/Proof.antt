@@ -5,7 +5,7 @@ use Rattle.layout.specs.Places.{handlerLong, handlerStart, handlerPart}
 use Rattle.layout.specs.WellFormed.{GoodBlock}
 use Rattle.layout.proofs.Places.{handler-start-small}
 use Rattle.formed.specs.Faults.{blockMost}
-use Rattle.formed.proofs.Gathers.{Gathered, gathered-none, gathered-more, gathered-all}
+use Rattle.formed.proofs.Gathers.{Gathered, gathered-none, gathered-more, gathered-all, faults-both}
 use Rattle.formed.proofs.Parts.{Inside, lent-length, blockFrom, block-inside, block-lent}
 use Rattle.formed.proofs.blocks_faults.Statement.{statement}
 use Rattle.formed.proofs.blocks_faults.Tie as tie
@@ -53,6 +53,6 @@ blocks-faults-spec =
     (λ c. omega arith)
     (λ c. omega arith)
     -- one more turn
-    (λ c. (omega arith, gathered-more blockMost _ (c .before .before .before .loop .inv .1) (rw block-lent at (c .block-faults .ensures))))
+    (λ c. (omega arith, gathered-more blockMost _ (faults-both (c .before .before .before .loop .inv .1) (rw block-lent at (c .block-faults .ensures)))))
     -- at the end
     (λ c. gathered-all blockMost _ (c .before .loop .inv .1) (omega arith) (omega arith) (omega arith)))

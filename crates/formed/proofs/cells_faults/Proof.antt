@@ -4,7 +4,7 @@ use native.Mathlib.Omega.{arith}
 use borrow.Author.Needs.{needs}
 use Rattle.layout.specs.Places.{cellPart, numberIn}
 use Rattle.formed.specs.Faults.{Faults, rowMost}
-use Rattle.formed.proofs.Gathers.{Gathered, gathered-none, gathered-more, gathered-all}
+use Rattle.formed.proofs.Gathers.{Gathered, gathered-none, gathered-more, gathered-all, faults-both}
 use Rattle.formed.proofs.Parts.{Fit, Inside, lent-faults, numbersFrom, numbers-inside, numbers-are}
 use Rattle.formed.proofs.cells_faults.Statement.{statement}
 use Rattle.formed.proofs.cells_faults.Tie as tie
@@ -50,6 +50,6 @@ cells-faults-spec =
     (λ c. omega arith)
     (λ c. omega arith)
     -- one more turn
-    (λ c. (omega arith, gathered-more rowMost _ (c .before .before .before .loop .inv .1) (looked c)))
+    (λ c. (omega arith, gathered-more rowMost _ (faults-both (c .before .before .before .loop .inv .1) (looked c))))
     -- at the end
     (λ c. gathered-all rowMost _ (c .before .loop .inv .1) (omega arith) (omega arith) (omega arith)))

@@ -1,25 +1,8 @@
 //! Compares the proved register with this crate's, word for word: the same random words and steps, every reply and every word.
 //! Arguments: a seed, how many well-formed registers, how many malformed ones.
+use reference::proved;
 use reference::random::Random;
-use reference::register::{self, Reply};
-
-extern "C" {
-    fn zidlemowo_length(m: u32, n: u32) -> u32;
-    fn zidlemowo_open(words: *mut u32, long: usize, m: u32, n: u32) -> u32;
-    fn zidlemowo_step(words: *mut u32, long: usize, handler: u32, code: u32, value: u32) -> u64;
-}
-
-/// A reply as the proved register gives it: kind · 2^32 + value or number.
-fn packed(reply: Reply) -> u64 {
-    let (kind, detail) = match reply {
-        Reply::Ok => (0, 0),
-        Reply::Value(value) => (1, value),
-        Reply::Commit => (2, 0),
-        Reply::Abort(reason) => (3, reason),
-        Reply::Refused(number) => (4, number),
-    };
-    (kind << 32) | u64::from(detail)
-}
+use reference::register;
 
 /// A number of a cell, a handler or a transaction, often near 0 or 65,535.
 fn number(random: &mut Random) -> u32 {
@@ -122,8 +105,8 @@ fn steps(random: &mut Random, words: &[u32], count: u64) -> u64 {
             _ => random.below(u64::from(n)) as u32,
         };
         let (code, value) = (code(random, before.first().copied().unwrap_or(1)), random.word());
-        let reply = unsafe { zidlemowo_step(ours.as_mut_ptr(), ours.len(), handler, code, value) };
-        let expected = packed(register::step(&mut theirs, handler, code, value));
+        let reply = proved::step(&mut ours, handler, code, value);
+        let expected = proved::packed(register::step(&mut theirs, handler, code, value));
         if reply != expected || ours != theirs {
             show("step", &before, &format!("handler {handler} code {code} value {value}"), reply, expected, &ours, &theirs);
         }
@@ -135,14 +118,14 @@ fn steps(random: &mut Random, words: &[u32], count: u64) -> u64 {
 fn opening(random: &mut Random) {
     let (m, n) = (random.below(36) as u32, random.below(19) as u32);
     let need = register::length(m, n);
-    assert_eq!(unsafe { zidlemowo_length(m, n) } as usize, need.unwrap_or(0), "length of {m} {n}");
+    assert_eq!(proved::length(m, n) as usize, need.unwrap_or(0), "length of {m} {n}");
     let long = match need {
         Some(need) if !random.once_in(4) => need + random.below(4) as usize,
         _ => random.below(2700) as usize,
     };
     let before: Vec<u32> = (0..long).map(|_| random.word()).collect();
     let (mut ours, mut theirs) = (before.clone(), before.clone());
-    let reply = unsafe { zidlemowo_open(ours.as_mut_ptr(), long, m, n) };
+    let reply = proved::open(&mut ours, m, n);
     let expected = register::open(&mut theirs, m, n).err().unwrap_or(0);
     if reply != expected || ours != theirs {
         show("open", &before, &format!("m {m} n {n}"), reply.into(), expected.into(), &ours, &theirs);

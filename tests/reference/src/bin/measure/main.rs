@@ -1,0 +1,72 @@
+//! Measures the proved register beside this crate's.
+//! `measure rows` takes each row once by each side, for callgrind; `measure schedule FILE` writes the largest schedule; and
+//! `measure table COUNTS SCHEDULE RUNNER RUNNER JUDGE JUDGE` times both and prints the table with the counts of a file, a number a
+//! line: those of the rows, ours and the reference's, then those of the four programs.
+mod programs;
+mod rows;
+mod sides;
+
+use std::fs;
+
+const HEAD: &str = "\
+|  m,  n | what                                         | instructions |    reference | ratio |  nanoseconds |    reference | ratio |
+|-------:|:---------------------------------------------|-------------:|-------------:|------:|-------------:|-------------:|------:|";
+
+/// A number with a comma before each three digits.
+fn grouped(number: f64) -> String {
+    let digits = format!("{number:.0}");
+    let mut text = String::new();
+    for (place, digit) in digits.chars().enumerate() {
+        if place > 0 && (digits.len() - place) % 3 == 0 {
+            text.push(',');
+        }
+        text.push(digit);
+    }
+    text
+}
+
+/// Two measures and their ratio, as three columns.
+fn compared([ours, theirs]: [f64; 2], show: fn(f64) -> String) -> String {
+    format!("{:>12} | {:>12} | {:>5.2}", show(ours), show(theirs), ours / theirs)
+}
+
+fn line(size: &str, name: &str, instructions: [f64; 2], nanoseconds: [f64; 2]) {
+    let times = compared(nanoseconds, |number| if number < 1000.0 { format!("{number:.1}") } else { grouped(number) });
+    println!("| {size:>6} | {name:<44} | {} | {times} |", compared(instructions, grouped));
+}
+
+fn table(counts: &str, schedule: &str, paths: [&str; 4]) {
+    let text = fs::read_to_string(counts).expect("the counts are there");
+    let counts: Vec<f64> = text.lines().map(|line| line.parse().expect("a count")).collect();
+    let rows = rows::all();
+    assert_eq!(counts.len(), 2 * rows.len() + 4, "a count for each row and side, and for four programs");
+    let (of_rows, of_programs) = counts.split_at(2 * rows.len());
+    println!("{HEAD}");
+    for (row, count) in rows.iter().zip(of_rows.chunks(2)) {
+        line(&format!("{:>2}, {:>2}", row.m, row.n), row.name, [count[0], count[1]], sides::timed(row));
+    }
+    let places = programs::places(&fs::read(schedule).expect("the schedule is there"));
+    let mut memory = Vec::new();
+    for (name, far, which) in [("the runner", format!("{places} places"), 0), ("the judge", "to a 65th commit".into(), 2)] {
+        let needed = programs::beside([paths[which], paths[which + 1]], schedule);
+        let count = [of_programs[which], of_programs[which + 1]];
+        line("32, 16", &format!("{name}, {far}, whole program"), count, needed.map(|needed| needed.nanoseconds));
+        memory.push((name, needed.map(|needed| needed.memory as f64)));
+    }
+    for (name, memory) in memory {
+        let what = format!("{name}, peak memory in KiB");
+        println!("| 32, 16 | {what:<44} | {} | {:>12} | {:>12} | {:>5} |", compared(memory, grouped), "", "", "");
+    }
+}
+
+fn main() {
+    let arguments: Vec<String> = std::env::args().skip(1).collect();
+    match arguments.iter().map(String::as_str).collect::<Vec<_>>()[..] {
+        ["rows"] => sides::counted(&rows::all()),
+        ["schedule", file] => fs::write(file, programs::largest()).expect("the schedule is written"),
+        ["table", counts, schedule, runner, reference_runner, judge, reference_judge] => {
+            table(counts, schedule, [runner, reference_runner, judge, reference_judge])
+        }
+        _ => panic!("rows, schedule or table"),
+    }
+}
