@@ -1,2 +1,3 @@
--- Laws of the exported functions' promises.
+-- The laws of the numbers that the exported functions give.
 pub mod Tight
+pub mod Apart
