@@ -11,20 +11,34 @@ use Rattle.judge.proofs.Stepping.{step-malformed, says, asked-plainly, 
 use Rattle.judge.proofs.step.Statement.{statement}
 use Rattle.judge.proofs.step.Tie as tie
 
+-- The places before a verdict: the handler was asked for, the code was read, the words are a ledger, and the start.
+abbrev opened-at : tie.After-verdict-of → tie.After-is-open
+opened-at c = c .before .before .before
+
+abbrev kind-at : tie.After-verdict-of → tie.After-kind-of
+kind-at c = opened-at c .before .before
+
+abbrev kept-at : tie.After-verdict-of → tie.Else1
+kept-at c = kind-at c .before
+
+abbrev start-at : tie.Else1 → tie.Start
+start-at c = c .before .before .before .before
+
 -- The words are a ledger.
-ledger : (c : tie.Else1) → Ledger (c .before .before .before .before .args .words .now)
+ledger : (c : tie.Else1) → Ledger (start-at c .args .words .now)
 ledger c = tested _ .0 (sym (c .before .is-ledger .ensures) ∙ not-false _ (c .if1 .left))
 
 -- The verdict is what the checks say by the history.
-said : (c : tie.After-verdict-of) → let args = c .before .before .before .before .before .before .before .before .before .before .args in
+said : (c : tie.After-verdict-of) → let args = start-at (kept-at c) .args in
     verdictIs (c .verdict-of .result) ≡ says (args .words .now) (args .handler) (args .code)
 said c =
-    let opened = c .before .before .before in
-    let args = opened .before .before .before .before .before .before .before .args in
-    c .verdict-of .ensures ∙ asked-plainly (args .words .now) (args .handler) (args .code) (opened .before .before .kind-of .ensures) (opened .is-open .ensures)
+    let args = start-at (kept-at c) .args in
+    c .verdict-of .ensures
+    ∙ asked-plainly (args .words .now) (args .handler) (args .code) (kind-at c .kind-of .ensures) (opened-at c .is-open .ensures)
 
 -- The checks let the step through.
-passes : (c : tie.After-enum-told) → let args = c .before .before .before .before .before .before .before .before .before .before .before .before .args in says (args .words .now) (args .handler) (args .code) ≡ none
+passes : (c : tie.After-enum-told) → let args = start-at (kept-at (c .before .before)) .args in
+    says (args .words .now) (args .handler) (args .code) ≡ none
 passes c = sym (said (c .before .before)) ∙ ap verdictIs (c .enum-told .given .1)
 
 pub step-spec : {M : Type 1} → statement M
@@ -43,15 +57,16 @@ step-spec =
     (λ c κs. search needs)
     (λ c. search needs)
     (λ c. search needs)
-    (λ c κs. let kept = c .before .before .before .before .before .before .before .before .before in
-    let args = kept .before .before .before .before .args in
-    let (s, asks, ready) = step-ready (args .words .now) (args .handler) (args .code) (args .value) (ledger kept) (passes (c .before)) in
-    (s, c .before .before .before .before .before .before .before .before .kind-of .ensures ∙ asks, ready))
+    (λ c κs. let verdict = c .before .before .before in
+    let args = start-at (kept-at verdict) .args in
+    let (s, asks, ready) = step-ready (args .words .now) (args .handler) (args .code) (args .value) (ledger (kept-at verdict)) (passes (c .before)) in
+    (s, kind-at verdict .kind-of .ensures ∙ asks, ready))
     (λ c. search needs)
     -- refused
-    (λ c. step-stops _ _ _ _ (ledger (c .before .before .before .before .before .before .before .before .before)) _ (sym (said (c .before .before .before)) ∙ ap verdictIs (c .before .verdict .given .1)))
+    (λ c. let verdict = c .before .before .before in
+    step-stops _ _ _ _ (ledger (kept-at verdict)) _ (sym (said verdict) ∙ ap verdictIs (c .before .verdict .given .1)))
     (λ c. search needs)
     -- passed
     (λ c. let told = c .before .before .before .before in
-    let kind = told .before .before .before .before .before .before .before in
-    step-passes _ _ _ _ (ledger (kind .before)) (passes told) (λ s asks. c .before .before .pass .ensures s (kind .kind-of .ensures ∙ asks))))
+    let verdict = told .before .before in
+    step-passes _ _ _ _ (ledger (kept-at verdict)) (passes told) (λ s asks. c .before .before .pass .ensures s (kind-at verdict .kind-of .ensures ∙ asks))))

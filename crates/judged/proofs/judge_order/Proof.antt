@@ -29,7 +29,8 @@ judge-order-spec =
     (λ c κs. search needs)
     (λ c κs. search needs)
     -- the judge stops
-    (λ c. let loop = c .before .before .before .before .before .before .before .before .before .loop in still-long _ (length (loop .words)) _ (search needs) (loop .inv .1))
+    (λ c. let loop = c .before .before .before .before .before .before .before .before .before .loop in
+    still-long _ (length (loop .words)) _ (search needs) (loop .inv .1))
     (λ c. search needs)
     -- one more place
     (λ c. omega arith)

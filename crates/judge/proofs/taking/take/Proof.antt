@@ -49,6 +49,7 @@ take-spec =
     (λ c. takes-for (read _) (ap kindIs (c .before .before .before .before .before .kind .given .1)) (c .before .before .read .ensures _))
     (λ c. search needs)
     -- a write
-    (λ c. takes-for (write _) (ap kindIs (c .before .before .before .before .before .kind2 .given .1)) (takes-write _ _ _ _ (c .before .before .note-write .ensures)))
+    (λ c. takes-for (write _) (ap kindIs (c .before .before .before .before .before .kind2 .given .1))
+    (takes-write _ _ _ _ (c .before .before .note-write .ensures)))
     -- no step
     (λ c s e. absurd (no-step s (ap kindIs (c .enum-told3 .given .1)) e)))
