@@ -12,8 +12,9 @@ use Rattle.rules.specs.Given.{InRange}
 use Rattle.rules.specs.History.{everyCommit, noHistory}
 use Rattle.rules.proofs.Tables.{found}
 use Rattle.rules.proofs.Alike.{length-same, replay-same, versionCount-same}
-use Rattle.layout.specs.View.{wordSetting, view, holding}
-use Rattle.layout.proofs.Places.{size-small}
+use Rattle.layout.specs.Places.{bodyOf}
+use Rattle.layout.specs.View.{wordSetting, view, registerIn}
+use Rattle.layout.proofs.Places.{body-small}
 use Rattle.promises.specs.Opening.{OpeningPromise}
 use Rattle.promises.specs.Runs.{opened}
 use Rattle.promises.proofs.Runs.{opens}
@@ -38,7 +39,7 @@ use Rattle.agreement.proofs.Alongside.{places-alongside}
 
 -- Words beside each other show the same cells.
 cells-agree : {m n : ℕ} {words ledger : List ℕ} → Beside m n words ledger → (c : ℕ) → c < m
-    → judgedEnd ledger c ≡ some (cellLine c (view m n words .cells c))
+    → judgedEnd ledger c ≡ some (cellLine c (view m n (bodyOf words) .cells c))
 unfolding judgedEnd
 cells-agree {m} beside c inside =
     let told = words-told (beside .run) c in
@@ -58,9 +59,9 @@ module _ {m n : ℕ} {ledger : List ℕ} (says : Says m n ledger noHistory) wher
 
 -- A register can be opened for every m and n in range.
 register-opens : {m n : ℕ} → InRange m n
-    → OpeningPromise (replicate 2642 0) m n ready (holding (replicate 2642 0) m n (fresh (wordSetting m)))
+    → OpeningPromise (replicate 2642 0) m n ready (registerIn (replicate 2642 0) m n (fresh (wordSetting m)))
 register-opens {m} {n} range =
-    opens (replicate 2642 0) m n range (rw (length-replicate {A = ℕ} 2642 0) (size-small m n (range .cells) (range .handlers)))
+    opens (replicate 2642 0) m n range (rw (length-replicate {A = ℕ} 2642 0) (omega (arith, body-small m n (range .cells) (range .handlers))))
 
 -- The judge agrees with what a file comes to, if it is run.
 abbrev Agrees : List ℕ → List ℕ → Played → Type 0

@@ -12,7 +12,7 @@ use Rattle.rules.specs.Cases.{cases}
 use Rattle.layout.specs.Bits.{hasBit, mask}
 use Rattle.layout.specs.Rows.{row, rows, below}
 use Rattle.layout.specs.View.{viewCell, viewHandler, view, pourCell, pourHandler, pour}
-use Rattle.layout.specs.WellFormed.{everyBelow, numbersFit, isGoodBlock, isRegister, isWellFormed}
+use Rattle.layout.specs.WellFormed.{everyBelow, numbersFit, isGoodBlock, isGoodBody, isWellFormed}
 use Rattle.promises.specs.Opening.{openingRefusal, openingReply, openingWords}
 use Rattle.promises.specs.Stepping.{turnOf, stepWords}
 use Rattle.cases.specs.Played.{openingNumbers, playLines, playFrom, made, joinRows, saidReplies, saidCounts, saidWords, said}
@@ -21,7 +21,7 @@ use Rattle.cases.specs.Played.{openingNumbers, playLines, playFrom, made
 pub all-cases : map made cases ≡ map said cases
 unfolding made said playFrom playLines openingNumbers saidReplies saidCounts saidWords joinRows cases
     openingRefusal openingReply openingWords turnOf stepWords
-    everyBelow numbersFit isGoodBlock isRegister isWellFormed viewCell viewHandler view pourCell pourHandler pour
+    everyBelow numbersFit isGoodBlock isGoodBody isWellFormed viewCell viewHandler view pourCell pourHandler pour
     hasBit mask row rows below put orElse lowest someBelow kindOf
     withHandler idle blank fresh firstHit stepChecks inRange openingChecks
     joined taken wrote shown stamped stored begun isTorn isOvertaken isSpent aborting committing

@@ -16,7 +16,7 @@ use Rattle.layout.specs.Bits.{hasBit, mask}
 use Rattle.layout.specs.Rows.{row, rows, below}
 use Rattle.layout.specs.Places.{cellsOf, handlersOf}
 use Rattle.layout.specs.View.{wordSetting, holding, viewCell, viewHandler, view, pourCell, pourHandler, pour}
-use Rattle.layout.specs.WellFormed.{everyBelow, numbersFit, isGoodBlock, isRegister, isWellFormed}
+use Rattle.layout.specs.WellFormed.{everyBelow, numbersFit, isGoodBlock, isGoodBody, isWellFormed}
 use Rattle.promises.specs.Stepping.{turnOf, stepWords, StepPromise}
 
 -- An engine: what it replies to a step, and the words that it leaves.
@@ -45,7 +45,7 @@ record OneTransaction : Type 0 where
 
 computed : OneTransaction
 unfolding inPhase turnOf stepWords
-    everyBelow numbersFit isGoodBlock isRegister isWellFormed viewCell viewHandler view pourCell pourHandler pour
+    everyBelow numbersFit isGoodBlock isGoodBody isWellFormed viewCell viewHandler view pourCell pourHandler pour
     hasBit mask row rows below put orElse lowest someBelow kindOf withHandler idle firstHit stepChecks inRange
     stamped stored begun isOvertaken isSpent aborting committing unlessAborted tryChecks trying step refusalOf turned turn
 computed = record { begun = refl; phase = refl; tried = refl }
@@ -115,7 +115,7 @@ record TwoCells : Type 0 where
 
 two-cells : TwoCells
 unfolding bothWritten onePass storedAtOnce turnOf stepWords
-    everyBelow numbersFit isGoodBlock isRegister isWellFormed viewCell viewHandler view pourCell pourHandler pour
+    everyBelow numbersFit isGoodBlock isGoodBody isWellFormed viewCell viewHandler view pourCell pourHandler pour
     hasBit mask row rows below put orElse lowest someBelow kindOf withHandler idle firstHit stepChecks inRange
     stamped stored begun isOvertaken isSpent aborting committing unlessAborted tryChecks trying step refusalOf turned turn
 two-cells = record { tried = refl; raised = refl; missed = refl }

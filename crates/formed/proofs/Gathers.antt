@@ -3,7 +3,7 @@ use Prim.Native.Nat.{ℕ, _+_, _*_, _/_, _^_, _≤_, _<_}
 use mathlib.Core.Path.{_≡_, refl, sym, subst}
 use mathlib.Core.Logic.{_↔_, Iff·rfl, Iff·symm, Iff·trans}
 use native.Mathlib.Omega.{arith}
-use native.Mathlib.Nat.{div-lt-iff-lt-mul}
+use native.Mathlib.Nat.{div-lt-iff-lt-mul, div-le-self}
 use lib.Bits.{bitOr, or-add-and, and-le-l, and-le-r, or-shr}
 use lib.Pow.{pow-pos, shr-le}
 use borrow.Author.Count.{below-more}
@@ -95,8 +95,17 @@ pub number-faults : (word : ℕ) → word < 2 ^ 32 → Faults 65535 (word ≤ 65
 number-faults word fits = omega arith
 
 -- The faults of a phase: how far it lies above 1.
-pub phase-faults : (word : ℕ) → word < 2 ^ 32 → Faults 2147483647 (word ≤ 1) (word / 2)
-phase-faults word fits = omega arith
+pub phase-faults : (last word : ℕ) → word < 2 ^ 32 → Faults 4294967295 (word ≤ last) (word / (last + 1))
+phase-faults last word fits = record { small = omega (arith, div-le-self word (last + 1)); none = (to, from) }
+  where
+    below : (word / (last + 1) < 1) ↔ (word < 1 * (last + 1))
+    below = div-lt-iff-lt-mul (omega arith)
+
+    to : word / (last + 1) ≡ 0 → word ≤ last
+    to e = omega (arith, below .0 (omega (arith, e)))
+
+    from : word ≤ last → word / (last + 1) ≡ 0
+    from h = omega (arith, below .1 (omega (arith, h)))
 
 -- The faults of a set of m cells: what its bits from m on say.
 pub set-faults : (m word : ℕ) → word < 2 ^ 32 → Faults 4294967295 (NoBitFrom m word) (word / 2 ^ m)

@@ -10,7 +10,7 @@ use lib.Dec.{ltb}
 use lib.ListN.{length, getD, take, drop}
 use borrow.Author.Tests.{ltb-true, ltb-false}
 use Rattle.rules.proofs.Tables.{by}
-use Rattle.layout.specs.Places.{cellLong, handlerLong, size, cellStart, handlerStart, cellPart, handlerPart, numberIn}
+use Rattle.layout.specs.Places.{cellLong, handlerLong, bodyLong, cellStart, handlerStart, cellPart, handlerPart, numberIn}
 use Rattle.layout.specs.Places.{phaseIn, readSetIn, writtenSetIn, handlerNumberIn, transactionNumberIn}
 use Rattle.layout.specs.Rows.{part}
 use Rattle.layout.specs.WellFormed.{NoBitFrom, GoodBlock}
@@ -67,19 +67,19 @@ module _ (from long : ℕ) (words : List ℕ) (inside : from + long ≤ length w
 
 -- Where the numbers of cell c begin.
 abbrev pub numbersFrom : ℕ → ℕ → ℕ
-numbersFrom m c = 3 + c * (m + 1)
+numbersFrom m c = 1 + c * (m + 1)
 
 -- Where the block of handler i begins.
 abbrev pub blockFrom : ℕ → ℕ → ℕ
-blockFrom m i = 2 + m * (m + 1) + i * handlerLong m
+blockFrom m i = m * (m + 1) + i * handlerLong m
 
 -- So many words from a small place on lie in the words.
 pub record Inside (from long : ℕ) (words : List ℕ) : Type 0 where
   pub ends : from + long ≤ length words
-  pub small : from ≤ 2642
+  pub small : from ≤ 2640
 
 -- The numbers of a cell lie in the register.
-pub numbers-inside : (m c : ℕ) (words : List ℕ) → (m ≤ 32) × (size m 0 ≤ length words) → c < m → Inside (numbersFrom m c) m words
+pub numbers-inside : (m c : ℕ) (words : List ℕ) → (m ≤ 32) × (bodyLong m 0 ≤ length words) → c < m → Inside (numbersFrom m c) m words
 numbers-inside m c words given h = record {
   ends = omega (arith, cell-fits m 0 c h);
   small = omega (arith, cell-start-small m c (given .0) (omega arith));
@@ -91,7 +91,7 @@ pub numbers-are : (m c : ℕ) (words : List ℕ) (y : ℕ) → y < m
 numbers-are m c words y h = same-word words (omega arith) ∙ sym (part-at (cellStart m c) (cellLong m) words (1 + y) (omega arith))
 
 -- A block lies in the register.
-pub block-inside : (m n i : ℕ) (words : List ℕ) → (m ≤ 32) × (n ≤ 16) × (size m n ≤ length words) → i < n
+pub block-inside : (m n i : ℕ) (words : List ℕ) → (m ≤ 32) × (n ≤ 16) × (bodyLong m n ≤ length words) → i < n
     → Inside (blockFrom m i) (handlerLong m) words
 block-inside m n i words given h = record {
   ends = omega (arith, handler-fits m n i h);
@@ -108,29 +108,31 @@ block-lent m i words = lent-is (blockFrom m i) (handlerLong m) words ∙ ap (λ 
 -- ── A block ───────────────────────────────────────────────────────────
 
 -- All that is looked at in a block: its phase, its sets, and its numbers as one row.
-abbrev Looked : ℕ → List ℕ → Type 0
-Looked m block =
-    ((phaseIn block ≤ 1) × (NoBitFrom m (readSetIn block) × NoBitFrom m (writtenSetIn block))) × Fit (2 * m) (handlerNumberIn block)
+abbrev Looked : ℕ → ℕ → List ℕ → Type 0
+Looked last m block =
+    ((phaseIn block ≤ last) × (NoBitFrom m (readSetIn block) × NoBitFrom m (writtenSetIn block))) × Fit (2 * m) (handlerNumberIn block)
 
 -- What is looked at is good just when the block is.
-looked-good : (m : ℕ) (block : List ℕ) → Looked m block ↔ GoodBlock m block
-looked-good m block = (to, from)
+looked-good : (last m : ℕ) (block : List ℕ) → Looked last m block ↔ (GoodBlock m block × (phaseIn block ≤ last))
+looked-good last m block = (to, from)
   where
     -- The numbers of the transaction follow those of the handler.
     second : (y : ℕ) → handlerNumberIn block (m + y) ≡ transactionNumberIn m block y
     second y = same-word block (omega arith)
 
-    to : Looked m block → GoodBlock m block
-    to ((phase, (read, written)), numbers) = record {
-      phase = phase;
-      readSet = read;
-      writtenSet = written;
-      numbers = λ y h. numbers y (omega arith);
-      transaction = λ y h. omega (arith, second y, numbers (m + y) (omega arith));
-    }
+    to : Looked last m block → GoodBlock m block × (phaseIn block ≤ last)
+    to ((phase, (read, written)), numbers) = (
+      record {
+        readSet = read;
+        writtenSet = written;
+        numbers = λ y h. numbers y (omega arith);
+        transaction = λ y h. omega (arith, second y, numbers (m + y) (omega arith));
+      },
+      phase,
+    )
 
-    from : GoodBlock m block → Looked m block
-    from good = ((good .phase, (good .readSet, good .writtenSet)), both)
+    from : GoodBlock m block × (phaseIn block ≤ last) → Looked last m block
+    from (good, phase) = ((phase, (good .readSet, good .writtenSet)), both)
       where
         both : Fit (2 * m) (handlerNumberIn block)
         both y h = by (ltb y m) (λ e. good .numbers y (ltb-true y m e)) behind
@@ -142,12 +144,12 @@ looked-good m block = (to, from)
             behind e = omega (arith, same-word block (here e), good .transaction (y - m) (omega (arith, ltb-false)))
 
 -- The faults of a block whose words fit 32 bits are its phase's, its sets' laid over each other, and its row of numbers'.
-pub block-sum : (m : ℕ) (block : List ℕ) → 3 + 2 * m ≤ length block → ((place : ℕ) → getD block place 0 < 2 ^ 32) → {numbers : ℕ}
+pub block-sum : (last m : ℕ) (block : List ℕ) → 3 + 2 * m ≤ length block → ((place : ℕ) → getD block place 0 < 2 ^ 32) → {numbers : ℕ}
     → Faults rowMost (RowFits (lent 3 (3 + 2 * m) block)) numbers
-    → Faults blockMost (GoodBlock m block) (phaseIn block / 2 + bitOr (readSetIn block) (writtenSetIn block) / 2 ^ m + numbers)
-block-sum m block inside fits {numbers} row =
-    faults-same (omega arith) (looked-good m block)
-    (faults-both (faults-both (phase-faults _ (fits 0)) sets) rest)
+    → Faults blockMost (GoodBlock m block × (phaseIn block ≤ last)) (phaseIn block / (last + 1) + bitOr (readSetIn block) (writtenSetIn block) / 2 ^ m + numbers)
+block-sum last m block inside fits {numbers} row =
+    faults-same (omega arith) (looked-good last m block)
+    (faults-both (faults-both (phase-faults last _ (fits 0)) sets) rest)
   where
     sets : Faults (2 * 4294967295) (NoBitFrom m (readSetIn block) × NoBitFrom m (writtenSetIn block)) (bitOr (readSetIn block) (writtenSetIn block) / 2 ^ m)
     sets = faults-above m _ _ (set-faults m _ (fits 1)) (set-faults m _ (fits 2))

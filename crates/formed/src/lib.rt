@@ -4,8 +4,8 @@ ghost use mathlib.Core.Path.{_≡_};
 ghost use Prim.Native.Nat.{ℕ, _*_, _≤_, _<_};
 ghost use lib.ListN.{length, getD};
 ghost use Rattle.rules.specs.Checks.{inRange};
-ghost use Rattle.layout.specs.Places.{size, handlerLong, cellPart, handlerPart, numberIn};
-ghost use Rattle.layout.specs.WellFormed.{GoodBlock, isWellFormed};
+ghost use Rattle.layout.specs.Places.{bodyLong, handlerLong, cellPart, handlerPart, numberIn, phaseIn};
+ghost use Rattle.layout.specs.WellFormed.{GoodBlock, isGoodBody, isWellFormed};
 ghost use Rattle.formed.specs.Faults.{Faults, rowMost, blockMost};
 
 // What the bits of a row's numbers say above 65,535, laid over each other: 0 exactly where no number lies there.
@@ -21,11 +21,11 @@ fn row_faults(row: &[u32]) -> u32
 }
 
 // The faults of one handler's block: its phase, its two sets and its two vectors of numbers.
-fn block_faults(block: &[u32], m: usize) -> u64
-    requires { ⌜ (length (now block) ≡ handlerLong m) × (m ≤ 32) ⌝ }
-    ensures { λ r. ⌜ Faults blockMost (GoodBlock m (now (block .entry))) r ⌝ }
+fn block_faults(block: &[u32], m: usize, last: u32) -> u64
+    requires { ⌜ (length (now block) ≡ handlerLong m) × (m ≤ 32) × (last ≤ 3) ⌝ }
+    ensures { λ r. ⌜ Faults blockMost (GoodBlock m (now (block .entry)) × (phaseIn (now (block .entry)) ≤ last)) r ⌝ }
 {
-    let phase = block[0] / 2;
+    let phase = block[0] / (last + 1);
     let sets = ((block[1] | block[2]) as u64) >> m;
     let end = 3 + 2 * m;
     let numbers = row_faults(&block[3..end]);
@@ -33,32 +33,32 @@ fn block_faults(block: &[u32], m: usize) -> u64
 }
 
 // The faults of all cells.
-fn cells_faults(words: &[u32], m: usize) -> u64
-    requires { ⌜ (m ≤ 32) × (size m 0 ≤ length (now words)) ⌝ }
-    ensures { λ r. ⌜ Faults (32 * rowMost) ((c : ℕ) → c < m → (y : ℕ) → y < m → numberIn (cellPart m (now (words .entry)) c) y ≤ 65535) r ⌝ }
+fn cells_faults(body: &[u32], m: usize) -> u64
+    requires { ⌜ (m ≤ 32) × (bodyLong m 0 ≤ length (now body)) ⌝ }
+    ensures { λ r. ⌜ Faults (32 * rowMost) ((c : ℕ) → c < m → (y : ℕ) → y < m → numberIn (cellPart m (now (body .entry)) c) y ≤ 65535) r ⌝ }
 {
     let mut faults = 0u64;
     for c in 0..m {
-        let a = 3 + c * (m + 1);
+        let a = 1 + c * (m + 1);
         let e = a + m;
-        let more = row_faults(&words[a..e]);
+        let more = row_faults(&body[a..e]);
         faults = faults + (more as u64);
     }
     faults
 }
 
 // The faults of all handlers.
-fn blocks_faults(words: &[u32], m: usize, n: usize) -> u64
-    requires { ⌜ (m ≤ 32) × (n ≤ 16) × (size m n ≤ length (now words)) ⌝ }
-    ensures { λ r. ⌜ Faults (16 * blockMost) ((i : ℕ) → i < n → GoodBlock m (handlerPart m (now (words .entry)) i)) r ⌝ }
+fn blocks_faults(body: &[u32], m: usize, n: usize, last: u32) -> u64
+    requires { ⌜ (m ≤ 32) × (n ≤ 16) × (last ≤ 3) × (bodyLong m n ≤ length (now body)) ⌝ }
+    ensures { λ r. ⌜ Faults (16 * blockMost) ((i : ℕ) → i < n → GoodBlock m (handlerPart m (now (body .entry)) i) × (phaseIn (handlerPart m (now (body .entry)) i) ≤ last)) r ⌝ }
 {
-    let first = 2 + m * (m + 1);
+    let first = m * (m + 1);
     let long = 3 + 3 * m;
     let mut faults = 0u64;
     for i in 0..n {
         let a = first + i * long;
         let e = a + long;
-        faults = faults + block_faults(&words[a..e], m);
+        faults = faults + block_faults(&body[a..e], m, last);
     }
     faults
 }
@@ -79,12 +79,26 @@ pub fn in_range(m: u32, n: u32) -> bool
     n <= 16
 }
 
-// The words of a register.
-pub fn words_for(m: usize, n: usize) -> usize
+// The words of a body of m cells and n handlers.
+pub fn body_words(m: usize, n: usize) -> usize
     requires { ⌜ (m ≤ 32) × (n ≤ 16) ⌝ }
-    ensures { λ r. ⌜ r ≡ size m n ⌝ }
+    ensures { λ r. ⌜ r ≡ bodyLong m n ⌝ }
 {
-    2 + m * (m + 1) + n * (3 + 3 * m)
+    m * (m + 1) + n * (3 + 3 * m)
+}
+
+// Whether a body of m cells and n handlers is good, with no phase above the last one.
+pub fn good_body(body: &[u32], m: usize, n: usize, last: u32) -> bool
+    requires { ⌜ (m ≤ 32) × (n ≤ 16) × (last ≤ 3) ⌝ }
+    ensures { λ r. ⌜ r ≡ isGoodBody last m n (now (body .entry)) ⌝ }
+{
+    let need = body_words(m, n);
+    if body.len() < need {
+        return false;
+    }
+    let cells = cells_faults(body, m);
+    let blocks = blocks_faults(body, m, n, last);
+    cells + blocks == 0
 }
 
 // Whether the words are a well-formed register.
@@ -101,11 +115,5 @@ pub fn well_formed(words: &[u32]) -> bool
     }
     let m = first as usize;
     let n = second as usize;
-    let need = words_for(m, n);
-    if words.len() < need {
-        return false;
-    }
-    let cells = cells_faults(words, m);
-    let blocks = blocks_faults(words, m, n);
-    cells + blocks == 0
+    good_body(&words[2..], m, n, 1)
 }

@@ -1,7 +1,9 @@
 -- Lengths and places, as document 01's "Words of a register": word 0 is m and word 1 is n; then the cells, then the handlers.
+-- Cells and handlers together are a register's body, and places are counted from its first word: registers that carry more words
+-- behind m and n have the same body behind those.
 use Prim.Native.Nat.{ℕ, _+_, _*_}
 use mathlib.Core.List.{List}
-use lib.ListN.{getD}
+use lib.ListN.{getD, drop}
 use Rattle.layout.specs.Rows.{part}
 
 -- Word 0: m.
@@ -20,25 +22,33 @@ cellLong m = 1 + m
 abbrev pub handlerLong : ℕ → ℕ
 handlerLong m = 3 + 3 * m
 
+-- The body: m cells, then n handlers.
+abbrev pub bodyLong : ℕ → ℕ → ℕ
+bodyLong m n = m * cellLong m + n * handlerLong m
+
 -- The length of a register: 2 + m(m+1) + n(3+3m).
 abbrev pub size : ℕ → ℕ → ℕ
-size m n = 2 + m * cellLong m + n * handlerLong m
+size m n = 2 + bodyLong m n
 
--- Where cell c begins.
+-- The words behind m and n: the body, and what lies beyond the register.
+abbrev pub bodyOf : List ℕ → List ℕ
+bodyOf words = drop 2 words
+
+-- Where cell c begins in the body.
 abbrev pub cellStart : ℕ → ℕ → ℕ
-cellStart m c = 2 + c * cellLong m
+cellStart m c = c * cellLong m
 
--- Where the block of handler i begins.
+-- Where the block of handler i begins in the body.
 abbrev pub handlerStart : ℕ → ℕ → ℕ
-handlerStart m i = 2 + m * cellLong m + i * handlerLong m
+handlerStart m i = m * cellLong m + i * handlerLong m
 
 -- The words of cell c.
 abbrev pub cellPart : ℕ → List ℕ → ℕ → List ℕ
-cellPart m words c = part (cellStart m c) (cellLong m) words
+cellPart m body c = part (cellStart m c) (cellLong m) body
 
 -- The block of handler i.
 abbrev pub handlerPart : ℕ → List ℕ → ℕ → List ℕ
-handlerPart m words i = part (handlerStart m i) (handlerLong m) words
+handlerPart m body i = part (handlerStart m i) (handlerLong m) body
 
 -- ── Inside a cell's words and a handler's block ───────────────────────
 

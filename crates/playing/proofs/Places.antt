@@ -15,7 +15,7 @@ use Rattle.rules.specs.Register.{Register}
 use Rattle.rules.specs.Checks.{firstHit}
 use Rattle.rules.specs.Turn.{turn}
 use Rattle.rules.proofs.Tables.{by, put-here, put-other}
-use Rattle.layout.specs.Places.{cellsOf, handlersOf}
+use Rattle.layout.specs.Places.{cellsOf, handlersOf, bodyOf}
 use Rattle.layout.specs.View.{wordSetting, view}
 use Rattle.layout.specs.WellFormed.{WellFormed}
 use Rattle.layout.proofs.Tested.{tested}
@@ -34,7 +34,7 @@ pub record Holding (file words : List ℕ) (register : Register ℕ) : Type 0 wh
   pub wellFormed : WellFormed words
   pub cellCount : cellsOf words ≡ cellsIn file
   pub handlerCount : handlersOf words ≡ handlersIn file
-  pub says : view (cellsIn file) (handlersIn file) words ≡ register
+  pub says : view (cellsIn file) (handlersIn file) (bodyOf words) ≡ register
 
 -- The bytes that the cursors leave are the steps that the run has left.
 abbrev pub Leaving : List ℕ → Cursors → (ℕ → List ScriptStep) → Type 0
@@ -73,10 +73,10 @@ module _ {file words : List ℕ} {register : Register ℕ} (held : Holding file 
       keeps : Keeps words after
       keeps = step-keeps promise (held .wellFormed)
 
-      viewed : view (cellsIn file) (handlersIn file) after ≡ turnOf words handler code value .after
+      viewed : view (cellsIn file) (handlersIn file) (bodyOf after) ≡ turnOf words handler code value .after
       viewed =
-          subst (λ m. view m (handlersIn file) after ≡ turnOf words handler code value .after) (held .cellCount)
-          (subst (λ n. view (cellsOf words) n after ≡ turnOf words handler code value .after) (held .handlerCount) (step-says promise))
+          subst (λ m. view m (handlersIn file) (bodyOf after) ≡ turnOf words handler code value .after) (held .cellCount)
+          (subst (λ n. view (cellsOf words) n (bodyOf after) ≡ turnOf words handler code value .after) (held .handlerCount) (step-says promise))
 
 -- What a place comes to in both: the same line, and both stand on alike.
 pub record OnePlace (file : List ℕ) (cursors : Cursors) (words : List ℕ) (s : Standing) (place handler : ℕ) : Type 0 where

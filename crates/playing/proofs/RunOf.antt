@@ -10,6 +10,7 @@ use lib.Seq.{drop-cons}
 use borrow.Author.Tests.{lt-leb}
 use Rattle.rules.specs.Tables.{isFound}
 use Rattle.rules.specs.Replies.{Refusal, ready}
+use Rattle.layout.specs.Places.{bodyOf}
 use Rattle.layout.specs.View.{view}
 use Rattle.promises.specs.Opening.{OpeningPromise}
 use Rattle.promises.proofs.Leaves.{opening-ready}
@@ -28,7 +29,7 @@ use Rattle.playing.proofs.Places.{Along, one-place}
 abbrev pub shownFrom : List ℕ → ℕ → Cursors → ℕ → List ℕ → Run
 shownFrom file count cursors place words =
     let run = placesFrom theRegister file count cursors place words in
-    record { lines = run .lines; register = view (cellsIn file) (handlersIn file) (run .words) }
+    record { lines = run .lines; register = view (cellsIn file) (handlersIn file) (bodyOf (run .words)) }
 
 -- What is shown of one place more, by what comes next there.
 abbrev shownBy : List ℕ → ℕ → Cursors → ℕ → List ℕ → Next → Run

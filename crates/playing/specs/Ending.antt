@@ -6,15 +6,15 @@ use mathlib.Core.List.{List}
 use mathlib.Core.Option.{Option, none, some}
 use lib.Dec.{ltb}
 use Rattle.rules.specs.Tables.{if_then_else_}
-use Rattle.layout.specs.Places.{cellsOf, handlersOf}
-use Rattle.layout.specs.View.{view}
+use Rattle.layout.specs.Places.{cellsOf}
+use Rattle.layout.specs.View.{viewed}
 use Rattle.layout.specs.WellFormed.{isWellFormed}
 use Rattle.schedule.specs.Shown.{CellLine, cellLine}
 
 -- What is shown of cell c of the register that the words say, if they say one that has it.
 unfoldable pub endOf : List ℕ → ℕ → Option CellLine
 endOf words c =
-    let cell = view (cellsOf words) (handlersOf words) words .cells c in
+    let cell = viewed words .cells c in
     if isWellFormed words && ltb c (cellsOf words) then (some (cellLine c cell)) else none
 
 -- The promise of a cell's end.

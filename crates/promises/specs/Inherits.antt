@@ -14,18 +14,18 @@ use Rattle.rules.specs.Replay.{Legal}
 use Rattle.rules.specs.Demand.{Ask, reportedTo, FirstRead}
 use Rattle.rules.specs.Judge.{numberAmong, judgement, Overtaken}
 use Rattle.layout.specs.Rows.{below}
-use Rattle.layout.specs.Places.{cellStart}
+use Rattle.layout.specs.Places.{bodyOf, cellStart}
 use Rattle.layout.specs.View.{wordSetting}
 use Rattle.promises.specs.Stepping.{StepPromise}
 use Rattle.promises.specs.Runs.{WordRun}
 
 -- The value of each of m cells, which is the first of the cell's words; 0 beyond the cells.
 unfoldable pub cellValues : ℕ → List ℕ → ℕ → ℕ
-cellValues m words = below m 0 (λ x. getD words (cellStart m x) 0)
+cellValues m words = below m 0 (λ x. getD (bodyOf words) (cellStart m x) 0)
 
 -- The cell x's number for y, which stands behind the value.
 abbrev pub numberWord : ℕ → List ℕ → ℕ → ℕ → ℕ
-numberWord m words x y = getD words (cellStart m x + (1 + y)) 0
+numberWord m words x y = getD (bodyOf words) (cellStart m x + (1 + y)) 0
 
 -- Words and a history agree with the third demand:
 pub record WordsConsistent (m n : ℕ) (words : List ℕ) (h : History ℕ) : Type 0 where

@@ -8,7 +8,7 @@ use Rattle.rules.specs.Replies.{Refusal, Opening, ready}
 use Rattle.rules.specs.Register.{fresh}
 use Rattle.rules.specs.Checks.{firstHit, openingChecks}
 use Rattle.layout.specs.Places.{size}
-use Rattle.layout.specs.View.{wordSetting, holding}
+use Rattle.layout.specs.View.{wordSetting, registerIn}
 
 -- What the checks of an opening say of it.
 unfoldable pub openingRefusal : List ℕ → ℕ → ℕ → Option Refusal
@@ -22,7 +22,7 @@ openingReply none = ready
 -- The words after an opening: a refusal changes nothing, and else they hold a fresh register.
 unfoldable pub openingWords : List ℕ → ℕ → ℕ → Option Refusal → List ℕ
 openingWords words m n (some refusal) = words
-openingWords words m n none = holding words m n (fresh (wordSetting m))
+openingWords words m n none = registerIn words m n (fresh (wordSetting m))
 
 -- The promise of opening.
 pub record OpeningPromise (words : List ℕ) (m n : ℕ) (reply : Opening) (after : List ℕ) : Type 0 where

@@ -3,9 +3,10 @@ use Prim.Native.Nat.{ℕ}
 use mathlib.Core.List.{List}
 use mathlib.Core.Option.{Option, none, some}
 use Rattle.rules.specs.Codes.{Kind}
+use Rattle.rules.specs.Register.{hasOpen}
 use Rattle.rules.specs.Checks.{Asked}
 use Rattle.layout.specs.Places.{cellsOf, handlersOf}
-use Rattle.layout.specs.View.{view}
+use Rattle.layout.specs.View.{viewed}
 use Rattle.layout.specs.WellFormed.{isWellFormed}
 use Rattle.register.specs.declared.Needed.{Needed}
 use Rattle.register.specs.declared.Needed.the-variants.{Words, Nothing}
@@ -23,5 +24,5 @@ askedBy words handler kind = record {
   handlerCount = handlersOf words;
   handler = handler;
   kind = kind;
-  opened = view (cellsOf words) (handlersOf words) words .handlers handler .opened;
+  opened = hasOpen (viewed words .handlers handler);
 }

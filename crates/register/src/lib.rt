@@ -1,6 +1,6 @@
 // A transactional register over words that the caller lends: opening it, and steps of its handlers.
 // PUBLIC: nothing here has a `requires`. Each promise fixes the reply and every word of the buffer, for all inputs.
-mod refusal;
+mod body;
 mod take;
 
 ghost use Rattle.promises.specs.Opening.{OpeningPromise};
@@ -8,13 +8,10 @@ ghost use Rattle.promises.specs.Stepping.{StepPromise};
 ghost use Rattle.promises.specs.Lengths.{LengthPromise};
 ghost use Rattle.replies.specs.Meaning.{replyOf, openingOf};
 ghost use Rattle.register.specs.Meaning.{neededIs};
-use crate::refusal::refusal_of;
-use crate::take::take;
+pub use body::step_body;
 use replies::Answer;
 use replies::Opened;
 use replies::Refusal;
-use replies::Report;
-use steps::Verdict;
 
 // How many words a register needs, if m and n are in range.
 pub enum Needed {
@@ -31,7 +28,7 @@ pub fn words_needed(m: u32, n: u32) -> Needed
     }
     let cells = m as usize;
     let handlers = n as usize;
-    Needed::Words(formed::words_for(cells, handlers))
+    Needed::Words(2 + formed::body_words(cells, handlers))
 }
 
 // Opens a register of m cells and n handlers in front of the words.
@@ -43,13 +40,13 @@ pub fn open(words: &mut [u32], m: u32, n: u32) -> Opened
     }
     let cells = m as usize;
     let handlers = n as usize;
-    let need = formed::words_for(cells, handlers);
-    if words.len() < need {
+    let long = formed::body_words(cells, handlers);
+    if words.len() < 2 + long {
         return Opened::Rejected(Refusal::TooShort);
     }
-    words::clear(words, 2, need - 2);
     words[0] = m;
     words[1] = n;
+    words::clear(&mut words[2..], 0, long);
     Opened::Ready
 }
 
@@ -57,19 +54,10 @@ pub fn open(words: &mut [u32], m: u32, n: u32) -> Opened
 pub fn step(words: &mut [u32], handler: u32, code: u32, value: u32) -> Answer
     ensures { λ r. ⌜ StepPromise (now (words .entry)) handler code value (replyOf r) (now (words .exit)) ⌝ }
 {
-    let kind = steps::kind_of(code);
-    let verdict = refusal_of(words, handler, kind);
-    match verdict {
-        Verdict::Refuses(refusal) => Answer::Refused(refusal),
-        Verdict::Passes => {
-            let m = words[0] as usize;
-            let i = handler as usize;
-            let outcome = take(words, m, i, kind, value);
-            Answer::Reported(Report {
-                handler,
-                code,
-                outcome,
-            })
-        }
+    if !formed::well_formed(words) {
+        return Answer::Refused(Refusal::NotWellFormed);
     }
+    let m = words[0] as usize;
+    let n = words[1] as usize;
+    step_body(&mut words[2..], m, n, handler, code, value)
 }

@@ -8,19 +8,19 @@ use replies::Outcome;
 use steps::Kind;
 
 // Takes the step. A code that stands for no step is never asked for here.
-pub fn take(words: &mut [u32], m: usize, i: usize, kind: Kind, value: u32) -> Outcome
-    requires { ⌜ ((s : Step) × (kindIs kind ≡ known s) × Ready (now words) m i s) ⌝ }
-    ensures { λ r. ⌜ ((s : Step) → kindIs kind ≡ known s → Takes (now (words .entry)) i s value (outcomeOf r) (now (words .exit))) ⌝ }
+pub fn take(body: &mut [u32], m: usize, n: usize, i: usize, kind: Kind, value: u32) -> Outcome
+    requires { ⌜ ((s : Step) × (kindIs kind ≡ known s) × Ready m n (now body) i s) ⌝ }
+    ensures { λ r. ⌜ ((s : Step) → kindIs kind ≡ known s → Takes m n (now (body .entry)) i s value (outcomeOf r) (now (body .exit))) ⌝ }
 {
     match kind {
         Kind::Begin => {
-            turns::begin(words, m, i);
+            turns::begin(body, m, n, i);
             Outcome::Done
         }
-        Kind::Try => turns::attempt(words, m, i),
-        Kind::Read(x) => turns::read(words, m, i, x),
+        Kind::Try => turns::attempt(body, m, n, i),
+        Kind::Read(x) => turns::read(body, m, n, i, x),
         Kind::Write(x) => {
-            turns::write(words, m, i, x, value);
+            turns::write(body, m, n, i, x, value);
             Outcome::Done
         }
         Kind::Unknown => Outcome::Done,

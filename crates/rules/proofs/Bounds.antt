@@ -123,3 +123,38 @@ module _ {W : Type 0} (S : Setting W) where
     pub fresh-bounded : Bounded m n (fresh S)
     unfolding fresh blank
     fresh-bounded = record { cells = λ c _ y _. omega arith; handlers = λ i _. idle-bounded m S _ (λ y _. omega arith) }
+
+-- ── Phases ────────────────────────────────────────────────────────────
+
+-- No handler below n is in a phase above the last one.
+pub record Phased {W : Type 0} (last n : ℕ) (r : Register W) : Type 0 where
+  pub phase : (i : ℕ) → i < n → r .handlers i .phase ≤ last
+
+module _ {W : Type 0} (S : Setting W) (last n : ℕ) (some : 1 ≤ last) where
+  -- Each step leaves the handler idle or open, and the others as they were.
+  phased-ways : (r : Register W) → Phased last n r → (i : ℕ) → i < n → Ways S (Phased last n) r i
+  unfolding begun wrote taken aborting committing idle withHandler
+  phased-ways r p i inside = record {
+    stays = p;
+    begins = leaves _ (omega arith);
+    writes = λ x l v. leaves _ (omega arith);
+    reads = λ x l _ _. leaves _ (omega arith);
+    aborts = leaves _ (omega arith);
+    commits = λ _ _. leaves _ (omega arith);
+  }
+    where
+      leaves : (h : Handler W) → h .phase ≤ last → {cells : ℕ → Cell W} → Phased last n (record { cells = cells; handlers = put (r .handlers) i h })
+      leaves h low = record { phase = put-each (λ j g. j < n → g .phase ≤ last) (r .handlers) i h (λ _. low) (λ j _. p .phase j) }
+
+  pub step-phased : (r : Register W) → Phased last n r → (i : ℕ) → i < n → (s : Step) → Within (S .cellCount) s → (v : W)
+      → Phased last n (step S r i s v .after)
+  step-phased = step-keeps S n (Phased last n) phased-ways
+
+  pub turn-phased : (r : Register W) → Phased last n r → (wellFormed : Bool) (i code : ℕ) (v : W)
+      → Phased last n (turn S n wellFormed r i code v .after)
+  turn-phased = turn-keeps S n (Phased last n) phased-ways
+
+-- A fresh register's handlers are idle.
+pub fresh-phased : {W : Type 0} (S : Setting W) (last n : ℕ) → Phased last n (fresh S)
+unfolding fresh idle
+fresh-phased S last n = record { phase = λ i _. omega arith }

@@ -3,13 +3,13 @@
 use Prim.Native.Nat.{ℕ, _≤_, _<_}
 use native.Mathlib.Omega.{arith}
 use mathlib.Core.Path.{_≡_, refl, sym, ap, _∙_}
-use mathlib.Core.Bool.{Bool, true, false, _||_, false≢true}
+use mathlib.Core.Bool.{Bool, true, false, not, _||_, false≢true}
 use mathlib.Core.List.{List, [], _∷_}
 use lib.ListN.{length}
 use lib.Dec.{eqb}
 use borrow.Author.Tests.{eqb-true}
 use Rattle.rules.specs.Tables.{put}
-use Rattle.rules.specs.Register.{Setting, Handler, Register, withHandler, noCells, zeros, idle, blank, fresh}
+use Rattle.rules.specs.Register.{hasOpen, Setting, Handler, Register, withHandler, noCells, zeros, idle, blank, fresh}
 use Rattle.rules.specs.Figure.{begun, wrote}
 use Rattle.rules.specs.History.{Deed, again, set, Commit, Abort, History, hasRead, hasWritten, someLook}
 use Rattle.rules.specs.History.{everyCommit, writer}
@@ -37,7 +37,7 @@ pub record Seen {W : Type 0} (S : Setting W) (commits : List (Commit W)) (includ
 -- What handler i holds, whose transaction is open or not and has done these deeds.
 pub record Carries {W : Type 0} (S : Setting W) (commits : List (Commit W)) (i : ℕ) (isOpen : Bool) (deeds : List (Deed W))
     (h : Handler W) : Type 0 where
-  pub opened : h .opened ≡ isOpen
+  pub opened : hasOpen h ≡ isOpen
   pub readSet : (y : ℕ) → h .readSet y ≡ hasRead deeds y
   pub writtenSet : (y : ℕ) → h .writtenSet y ≡ hasWritten deeds y
   pub copies : (y : ℕ) → h .copies y ≡ copied S deeds y
@@ -80,11 +80,11 @@ module _ {W : Type 0} (S : Setting W) where
 
   module _ (commits : List (Commit W)) (i : ℕ) where
     -- A block with empty sets and cleared copies, at a begin or between transactions.
-    cleared : (isOpen : Bool) (numbers transaction : ℕ → ℕ)
-        → ((y : ℕ) → numbers y ≡ numberAmong commits (upTo commits (lastOf commits i)) y)
+    cleared : (phase : ℕ) (numbers transaction : ℕ → ℕ) → let isOpen = not (eqb phase 0) in
+        ((y : ℕ) → numbers y ≡ numberAmong commits (upTo commits (lastOf commits i)) y)
         → (isOpen ≡ true → (y : ℕ) → transaction y ≡ numberAmong commits (inPast commits i []) y)
         → Carries S commits i isOpen [] (record {
-          opened = isOpen;
+          phase = phase;
           readSet = noCells;
           writtenSet = noCells;
           numbers = numbers;
@@ -92,7 +92,7 @@ module _ {W : Type 0} (S : Setting W) where
           copies = λ _. S .empty;
         })
     unfolding hasRead someLook hasWritten copied
-    cleared isOpen numbers transaction known reached = record {
+    cleared phase numbers transaction known reached = record {
       opened = refl;
       readSet = λ y. refl;
       writtenSet = λ y. refl;
@@ -108,14 +108,14 @@ module _ {W : Type 0} (S : Setting W) where
     pub idle-carries : (numbers : ℕ → ℕ) → ((y : ℕ) → numbers y ≡ numberAmong commits (upTo commits (lastOf commits i)) y)
         → Carries S commits i false [] (idle S numbers)
     unfolding idle
-    idle-carries numbers known = cleared false numbers zeros known (λ e. absurd (false≢true e))
+    idle-carries numbers known = cleared 0 numbers zeros known (λ e. absurd (false≢true e))
 
     -- A begin: the past of an empty transaction is that of its handler's last commit.
     pub begun-carries : (isOpen : Bool) (deeds : List (Deed W)) (h : Handler W)
         → Carries S commits i isOpen deeds h → Carries S commits i true [] (begun S h)
     unfolding begun
     begun-carries isOpen deeds h c =
-        cleared true (h .numbers) (h .numbers) (c .numbers) (λ e y. rw (past-last commits i) (c .numbers y))
+        cleared 1 (h .numbers) (h .numbers) (c .numbers) (λ e y. rw (past-last commits i) (c .numbers y))
 
     -- A write: the past stays as it was.
     pub wrote-carries : (deeds : List (Deed W)) (h : Handler W) (x : ℕ) (v : W) → x < S .cellCount

@@ -10,6 +10,7 @@ pub mod Turns
 pub mod Properties
 pub mod Attempts
 pub mod Ways
+pub mod Mapped
 pub mod Bounds
 pub mod Confined
 pub mod Pasts

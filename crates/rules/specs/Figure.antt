@@ -19,7 +19,7 @@ module _ {W : Type 0} where
   -- Line 03: X joins the read set, and the transaction's number for X becomes X's own number.
   unfoldable pub joined : Handler W → ℕ → Cell W → Handler W
   joined h x c = record {
-    opened = true;
+    phase = 1;
     readSet = put (h .readSet) x true;
     writtenSet = h .writtenSet;
     numbers = h .numbers;
@@ -31,7 +31,7 @@ module _ {W : Type 0} where
   -- X's value.
   unfoldable pub taken : Handler W → ℕ → Cell W → Handler W
   taken h x c = record {
-    opened = true;
+    phase = 1;
     readSet = h .readSet;
     writtenSet = h .writtenSet;
     numbers = h .numbers;
@@ -42,7 +42,7 @@ module _ {W : Type 0} where
   -- Lines 08 and 09: the copy becomes the value, X joins the written set. X does not join the read set.
   unfoldable pub wrote : Handler W → ℕ → W → Handler W
   wrote h x v = record {
-    opened = true;
+    phase = 1;
     readSet = h .readSet;
     writtenSet = put (h .writtenSet) x true;
     numbers = h .numbers;
@@ -66,7 +66,7 @@ module _ {W : Type 0} (S : Setting W) where
   -- Begin: phase 1, both sets empty, the transaction's numbers become the handler's, copies 0.
   unfoldable pub begun : Handler W → Handler W
   begun h = record {
-    opened = true;
+    phase = 1;
     readSet = noCells;
     writtenSet = noCells;
     numbers = h .numbers;

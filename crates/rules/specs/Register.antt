@@ -1,7 +1,8 @@
 -- What a register holds, as tables over any kind of value W: cells and handlers, a vector of numbers as a table of numbers, a set
 -- of cells as a table of yes and no.
 use Prim.Native.Nat.{ℕ}
-use mathlib.Core.Bool.{Bool, false}
+use mathlib.Core.Bool.{Bool, false, not}
+use lib.Dec.{eqb}
 use Rattle.rules.specs.Tables.{put}
 
 -- What the rules are taken over: the value that an unwritten cell and a cleared copy hold, and the number of cells.
@@ -14,15 +15,19 @@ pub record Cell (W : Type 0) : Type 0 where
   pub value : W
   pub numbers : ℕ → ℕ
 
--- A handler: whether its transaction is open, the transaction's read set and written set, the numbers of the handler, the
+-- A handler: its phase (0 idle, 1 open), the transaction's read set and written set, the numbers of the handler, the
 -- numbers of the transaction, and the local copies.
 pub record Handler (W : Type 0) : Type 0 where
-  pub opened : Bool
+  pub phase : ℕ
   pub readSet : ℕ → Bool
   pub writtenSet : ℕ → Bool
   pub numbers : ℕ → ℕ
   pub transaction : ℕ → ℕ
   pub copies : ℕ → W
+
+-- A transaction of the handler is open.
+abbrev pub hasOpen : {W : Type 0} → Handler W → Bool
+hasOpen h = not (eqb (h .phase) 0)
 
 -- A register: cells and handlers.
 pub record Register (W : Type 0) : Type 0 where
@@ -45,7 +50,7 @@ module _ {W : Type 0} (S : Setting W) where
   -- A handler between transactions: phase, sets, the transaction's numbers and the copies are 0.
   unfoldable pub idle : (ℕ → ℕ) → Handler W
   idle numbers = record {
-    opened = false;
+    phase = 0;
     readSet = noCells;
     writtenSet = noCells;
     numbers = numbers;

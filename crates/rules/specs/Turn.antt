@@ -5,7 +5,7 @@ use mathlib.Core.Bool.{Bool}
 use mathlib.Core.Option.{Option, none, some}
 use Rattle.rules.specs.Codes.{Kind, known, unknown, kindOf}
 use Rattle.rules.specs.Replies.{Refusal, unknownStep, Reply, reported}
-use Rattle.rules.specs.Register.{Setting, Register}
+use Rattle.rules.specs.Register.{Setting, Register, hasOpen}
 use Rattle.rules.specs.Checks.{Asked, firstHit, stepChecks}
 use Rattle.rules.specs.Figure.{step}
 
@@ -22,7 +22,7 @@ asked S n wellFormed r i code = record {
   handlerCount = n;
   handler = i;
   kind = kindOf code;
-  opened = r .handlers i .opened;
+  opened = hasOpen (r .handlers i);
 }
 
 -- What the checks of a step say of it.

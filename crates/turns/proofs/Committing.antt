@@ -13,7 +13,7 @@ use Rattle.rules.specs.Replies.{committed}
 use Rattle.rules.specs.Register.{Register, withHandler, idle}
 use Rattle.rules.specs.Figure.{stamped, isOvertaken, isSpent, committing}
 use Rattle.layout.specs.Bits.{hasBit}
-use Rattle.layout.specs.Places.{cellsOf, handlersOf, size, handlerStart, handlerLong}
+use Rattle.layout.specs.Places.{bodyLong, handlerStart, handlerLong}
 use Rattle.layout.specs.View.{wordSetting, viewHandler, view, pourHandler, holding}
 use Rattle.layout.proofs.Holds.{Holds, holds-is}
 use Rattle.layout.proofs.Kept.{view-bounded}
@@ -22,7 +22,7 @@ use Rattle.layout.specs.Rows.{splice}
 use Rattle.words.specs.Rows.{RowOf}
 use Rattle.block.specs.Blocks.{rowTable, overtakenBy, spentBy, stampedBy}
 use Rattle.turns.specs.Spans.{Spans}
-use Rattle.turns.specs.Takes.{viewed, Seated, Takes, Commits}
+use Rattle.turns.specs.Takes.{Seated, Takes, Commits}
 use Rattle.turns.specs.Stores.{ownNumbers, storedBelow, Stores}
 use Rattle.turns.proofs.Lent.{lent-back, seated-holds, block-says}
 use Rattle.turns.proofs.Said.{written-said, copy-said}
@@ -33,12 +33,8 @@ use Rattle.turns.proofs.Trying.{try-commits, own-is, written-is, copies
 same-row : {m : ℕ} {table other : ℕ → ℕ} {row : List ℕ} → RowOf m table row → ((y : ℕ) → y < m → table y ≡ other y) → RowOf m other row
 same-row of same = record { size = of .size; inside = λ y h. of .inside y h ∙ same y h; beyond = of .beyond }
 
-module _ {words : List ℕ} {m i : ℕ} (seated : Seated words m i) {from to : ℕ} (span : Spans (handlerStart m i) (handlerLong m) from to) where
-  -- The number of handlers.
-  abbrev n : ℕ
-  n = handlersOf words
-
-  -- The register that the words say, by the number of cells that is known.
+module _ {m n i : ℕ} {words : List ℕ} (seated : Seated m n words i) {from to : ℕ} (span : Spans (handlerStart m i) (handlerLong m) from to) where
+  -- The register that the words say.
   abbrev r : Register ℕ
   r = view m n words
 
@@ -47,80 +43,65 @@ module _ {words : List ℕ} {m i : ℕ} (seated : Seated words m i) {from to : �
   lent = take (to - from) (drop from words)
 
   -- A row of the cells' own numbers has none above 65,535.
-  pub own-fits : {own : List ℕ} → RowOf m (ownNumbers words) own → (y : ℕ) → y < m → getD own y 0 ≤ 65535
-  own-fits of y h =
-      let inside : y < cellsOf words = omega (arith, seated .formed .cells) in
-      rw (of .inside y h) (view-bounded words (seated .formed .wellFormed) .cells y inside y inside)
-
-  -- A row of the cells' own numbers stands for them.
-  owned : {own : List ℕ} → RowOf m (ownNumbers words) own → rowTable own ≡ (λ c. r .cells c .numbers c)
-  owned of = own-is m n words (same-row of (λ y h. ap (λ k. view k n words .cells y .numbers y) (sym (seated .formed .cells))))
+  pub own-fits : {own : List ℕ} → RowOf m (ownNumbers m n words) own → (y : ℕ) → y < m → getD own y 0 ≤ 65535
+  own-fits of y h = rw (of .inside y h) (view-bounded (seated .formed .good) .cells y h y h)
 
   -- What the block and the row say of reads that are overtaken is what the rules say.
-  pub overtaken-told : {own : List ℕ} → RowOf m (ownNumbers words) own
-      → overtakenBy m (viewHandler m lent) (rowTable own) ≡ isOvertaken (wordSetting (cellsOf words)) (viewed words) (viewed words .handlers i)
+  pub overtaken-told : {own : List ℕ} → RowOf m (ownNumbers m n words) own
+      → overtakenBy m (viewHandler m lent) (rowTable own) ≡ isOvertaken (wordSetting m) r (r .handlers i)
   unfolding overtakenBy isOvertaken
-  overtaken-told of =
-      ap₂ (overtakenBy m) (block-says seated span) (owned of)
-      ∙ ap (λ k. isOvertaken (wordSetting k) (view k n words) (view k n words .handlers i)) (seated .formed .cells)
+  overtaken-told of = ap₂ (overtakenBy m) (block-says seated span) (own-is m n words of)
 
   -- What they say of numbers that are spent is what the rules say.
-  pub spent-told : {own : List ℕ} → RowOf m (ownNumbers words) own
-      → spentBy m (viewHandler m lent) (rowTable own) ≡ isSpent (wordSetting (cellsOf words)) (viewed words) (viewed words .handlers i)
+  pub spent-told : {own : List ℕ} → RowOf m (ownNumbers m n words) own
+      → spentBy m (viewHandler m lent) (rowTable own) ≡ isSpent (wordSetting m) r (r .handlers i)
   unfolding spentBy isSpent
-  spent-told of =
-      ap₂ (spentBy m) (block-says seated span) (owned of)
-      ∙ ap (λ k. isSpent (wordSetting k) (view k n words) (view k n words .handlers i)) (seated .formed .cells)
+  spent-told of = ap₂ (spentBy m) (block-says seated span) (own-is m n words of)
 
   -- The numbers that were stamped are the rules'.
-  numbers-are : {own numbers : List ℕ} → RowOf m (ownNumbers words) own → RowOf m (stampedBy (viewHandler m lent) (rowTable own)) numbers
+  numbers-are : {own numbers : List ℕ} → RowOf m (ownNumbers m n words) own → RowOf m (stampedBy (viewHandler m lent) (rowTable own)) numbers
       → rowTable numbers ≡ stamped r (r .handlers i)
   unfolding stamped stampedBy
   numbers-are of-own stamps =
-      stamps-are m n words i (same-row stamps (λ y h. ap₂ (λ g table. stampedBy g table y) (block-says seated span) (owned of-own)))
+      stamps-are m n words i (same-row stamps (λ y h. ap₂ (λ g table. stampedBy g table y) (block-says seated span) (own-is m n words of-own)))
 
   -- The copies that were taken out are the handler's.
   copied : {copies : List ℕ} → RowOf m (λ y. getD words (from + 3 + 2 * m + y) 0) copies → rowTable copies ≡ r .handlers i .copies
-  copied of = copies-are m n words i (same-row of (λ y h.
-      copy-said seated (span .starts) y h ∙ ap (λ k. view k n words .handlers i .copies y) (sym (seated .formed .cells))))
+  copied of = copies-are m n words i (same-row of (copy-said seated (span .starts)))
 
   -- The third word of the block is the written set.
   written : (c : ℕ) → ltb c m && hasBit (getD words (from + 2) 0) c ≡ r .handlers i .writtenSet c
-  written = written-is m n words i (getD words (from + 2) 0) (λ c h.
-      written-said seated (span .starts) c h ∙ ap (λ k. view k n words .handlers i .writtenSet c) (sym (seated .formed .cells)))
+  written = written-is m n words i (getD words (from + 2) 0) (written-said seated (span .starts))
 
   -- What is left is the rules' register after a commit.
-  pub commits : {own numbers copies stored last : List ℕ} → RowOf m (ownNumbers words) own
+  pub commits : {own numbers copies stored last : List ℕ} → RowOf m (ownNumbers m n words) own
       → RowOf m (stampedBy (viewHandler m lent) (rowTable own)) numbers
       → RowOf m (λ y. getD words (from + 3 + 2 * m + y) 0) copies
       → Stores m m (getD words (from + 2) 0) (rowTable copies) (rowTable numbers) words stored
       → last ≡ pourHandler m (idle (wordSetting m) (rowTable numbers))
-      → Commits words i (putMid from (to - from) stored last)
+      → Commits m n words i (putMid from (to - from) stored last)
   commits {numbers = numbers} {copies = copies} {stored = stored} of-own stamps taken stores settled =
-      lent-back span stored settled ∙ holds-is settles ∙ ap (λ q. holding words m n q) register ∙ ap held (seated .formed .cells)
+      lent-back span stored settled ∙ holds-is settles ∙ ap (holding words m n) register
     where
       storing : Register ℕ
       storing = storedBelow m (getD words (from + 2) 0) (rowTable copies) (rowTable numbers) r
 
-      settles : Holds m n (withHandler storing i (idle (wordSetting m) (rowTable numbers))) (drop (size m n) words)
+      settles : Holds m n (withHandler storing i (idle (wordSetting m) (rowTable numbers))) (drop (bodyLong m n) words)
           (splice (handlerStart m i) (handlerLong m) (pourHandler m (idle (wordSetting m) (rowTable numbers))) stored)
-      settles = block-put (stores .holds n r (drop (size m n) words) (seated-holds seated)) i _ (seated .handler)
+      settles = block-put (stores .holds n r (drop (bodyLong m n) words) (seated-holds seated)) i _ (seated .handler)
 
       register : withHandler storing i (idle (wordSetting m) (rowTable numbers)) ≡ committing (wordSetting m) r i (r .handlers i)
       register =
           ap₂ (λ a b. withHandler (storedBelow m (getD words (from + 2) 0) a b r) i (idle (wordSetting m) b)) (copied taken) (numbers-are of-own stamps)
           ∙ commit-is m r i (getD words (from + 2) 0) written
 
-      held : ℕ → List ℕ
-      held k = let q = view k n words in holding words k n (committing (wordSetting k) q i (q .handlers i))
-
 -- A try that goes through is taken by a commit.
-pub commit-takes : {words : List ℕ} {i : ℕ} {after : List ℕ} → let r = viewed words in
-    isOvertaken (wordSetting (cellsOf words)) r (r .handlers i) ≡ false → isSpent (wordSetting (cellsOf words)) r (r .handlers i) ≡ false
-    → Commits words i after → Takes words i try 0 committed after
-commit-takes {words} {i} current room left =
-    let goes = try-commits (cellsOf words) (viewed words) i 0 current room in
+pub commit-takes : {m n i : ℕ} {words after : List ℕ} → let r = view m n words in
+    isOvertaken (wordSetting m) r (r .handlers i) ≡ false → isSpent (wordSetting m) r (r .handlers i) ≡ false
+    → Commits m n words i after → Takes m n words i try 0 committed after
+commit-takes {m} {n} {i} {words} current room left =
+    let goes = try-commits m (view m n words) i 0 current room in
     record {
       replied = ap (λ q. q .outcome) (sym goes);
-      left = left ∙ ap (λ q. holding words (cellsOf words) (handlersOf words) (q .after)) (sym goes);
+      left = left ∙ ap (λ q. holding words m n (q .after)) (sym goes);
     }

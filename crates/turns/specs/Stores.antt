@@ -8,12 +8,12 @@ use lib.ListN.{length}
 use Rattle.rules.specs.Tables.{if_then_else_}
 use Rattle.rules.specs.Register.{Register}
 use Rattle.layout.specs.Bits.{hasBit}
+use Rattle.layout.specs.View.{view}
 use Rattle.layout.proofs.Holds.{Holds}
-use Rattle.turns.specs.Takes.{viewed}
 
 -- Each cell's own number.
-abbrev pub ownNumbers : List ℕ → ℕ → ℕ
-ownNumbers words c = viewed words .cells c .numbers c
+abbrev pub ownNumbers : ℕ → ℕ → List ℕ → ℕ → ℕ
+ownNumbers m n body c = view m n body .cells c .numbers c
 
 -- The register in which the written cells below k have taken a value and the numbers.
 unfoldable pub storedBelow : ℕ → ℕ → (ℕ → ℕ) → (ℕ → ℕ) → Register ℕ → Register ℕ

@@ -1,4 +1,4 @@
-// The steps on a whole register: where each part lies, and the handler's block lent on to be written.
+// The steps on a whole body: where each part lies, and the handler's block lent on to be written.
 // Internal: called by our crates alone, which show what each function requires.
 
 mod places;

@@ -1,4 +1,4 @@
-// Where a handler's block and a cell's words lie.
+// Where a handler's block and a cell's words lie in a body.
 ghost use Prim.Native.Nat.{_≤_, _<_};
 ghost use Rattle.layout.specs.Places.{cellLong, handlerLong, cellStart, handlerStart};
 ghost use Rattle.turns.specs.Spans.{Spans};
@@ -15,7 +15,7 @@ pub fn block_at(m: usize, i: usize) -> Span
     ensures { λ r. ⌜ Spans (handlerStart m i) (handlerLong m) (r .start) (r .end) ⌝ }
 {
     let long = 3 + 3 * m;
-    let start = 2 + m * (m + 1) + i * long;
+    let start = m * (m + 1) + i * long;
     Span {
         start,
         end: start + long,
@@ -28,7 +28,7 @@ pub fn cell_at(m: usize, c: usize) -> Span
     ensures { λ r. ⌜ Spans (cellStart m c) (cellLong m) (r .start) (r .end) ⌝ }
 {
     let long = m + 1;
-    let start = 2 + c * long;
+    let start = c * long;
     Span {
         start,
         end: start + long,

@@ -14,15 +14,15 @@ ghost use Rattle.turns.specs.Stores.{ownNumbers, Stores};
 use crate::places::cell_at;
 
 // Each cell's own number.
-pub fn own_numbers(words: &[u32], m: usize) -> [u32; 32]
-    requires { ⌜ Formed (now words) m ⌝ }
-    ensures { λ r. ⌜ RowOf m (ownNumbers (now (words .entry))) r ⌝ }
+pub fn own_numbers(body: &[u32], m: usize, n: usize) -> [u32; 32]
+    requires { ⌜ Formed m n (now body) ⌝ }
+    ensures { λ r. ⌜ RowOf m (ownNumbers m n (now (body .entry))) r ⌝ }
 {
     let mut row = [0u32; 32];
     for c in 0..m {
         let span = cell_at(m, c);
         let start = span.start;
-        row[c] = words[start + 1 + c];
+        row[c] = body[start + 1 + c];
     }
     row
 }
@@ -37,27 +37,27 @@ fn put_cell(cell: &mut [u32], m: usize, value: u32, numbers: &[u32; 32])
 }
 
 // Cell c takes the value and the numbers, if it is in the written set.
-fn store_one(words: &mut [u32], m: usize, c: usize, written: u32, value: u32, numbers: &[u32; 32])
-    requires { ⌜ (m ≤ 32) × (c < m) × (2 + m * cellLong m ≤ length (now words)) ⌝ }
-    ensures { λ _. ⌜ now (words .exit)
-        ≡ (if hasBit written c then (splice (cellStart m c) (cellLong m) (pourCell m (rowCell value (now (numbers .entry)))) (now (words .entry)))
-        else now (words .entry)) ⌝ }
+fn store_one(body: &mut [u32], m: usize, c: usize, written: u32, value: u32, numbers: &[u32; 32])
+    requires { ⌜ (m ≤ 32) × (c < m) × (m * cellLong m ≤ length (now body)) ⌝ }
+    ensures { λ _. ⌜ now (body .exit)
+        ≡ (if hasBit written c then (splice (cellStart m c) (cellLong m) (pourCell m (rowCell value (now (numbers .entry)))) (now (body .entry)))
+        else now (body .entry)) ⌝ }
 {
     if words::has(written, c) {
         let span = cell_at(m, c);
         let start = span.start;
         let end = span.end;
-        put_cell(&mut words[start..end], m, value, numbers);
+        put_cell(&mut body[start..end], m, value, numbers);
     }
 }
 
 // Each written cell takes its copy and the numbers.
-pub fn store(words: &mut [u32], m: usize, written: u32, copies: &[u32; 32], numbers: &[u32; 32])
-    requires { ⌜ (m ≤ 32) × (2 + m * cellLong m ≤ length (now words)) ⌝ }
-    ensures { λ _. ⌜ Stores m m written (rowTable (now (copies .entry))) (rowTable (now (numbers .entry))) (now (words .entry)) (now (words .exit)) ⌝ }
+pub fn store(body: &mut [u32], m: usize, written: u32, copies: &[u32; 32], numbers: &[u32; 32])
+    requires { ⌜ (m ≤ 32) × (m * cellLong m ≤ length (now body)) ⌝ }
+    ensures { λ _. ⌜ Stores m m written (rowTable (now (copies .entry))) (rowTable (now (numbers .entry))) (now (body .entry)) (now (body .exit)) ⌝ }
 {
     for c in 0..m {
         let value = copies[c];
-        store_one(words, m, c, written, value, numbers);
+        store_one(body, m, c, written, value, numbers);
     }
 }

@@ -11,37 +11,37 @@ use replies::Outcome;
 use replies::Reason;
 
 // A commit.
-fn commit(words: &mut [u32], m: usize, i: usize, own: &[u32; 32])
-    requires { ⌜ Ready (now words) m i Codes.try × RowOf m (ownNumbers (now words)) (now own) ⌝ }
-    ensures { λ _. ⌜ Commits (now (words .entry)) i (now (words .exit)) ⌝ }
+fn commit(body: &mut [u32], m: usize, n: usize, i: usize, own: &[u32; 32])
+    requires { ⌜ Ready m n (now body) i Codes.try × RowOf m (ownNumbers m n (now body)) (now own) ⌝ }
+    ensures { λ _. ⌜ Commits m n (now (body .entry)) i (now (body .exit)) ⌝ }
 {
     let span = block_at(m, i);
     let start = span.start;
     let end = span.end;
-    let numbers = block::stamps(&words[start..end], m, own);
-    let copies = words::copy_out(words, start + 3 + 2 * m, m);
-    let written = words[start + 2];
-    store(words, m, written, &copies, &numbers);
-    block::settle(&mut words[start..end], m, &numbers);
+    let numbers = block::stamps(&body[start..end], m, own);
+    let copies = words::copy_out(body, start + 3 + 2 * m, m);
+    let written = body[start + 2];
+    store(body, m, written, &copies, &numbers);
+    block::settle(&mut body[start..end], m, &numbers);
 }
 
 // A try.
-pub fn attempt(words: &mut [u32], m: usize, i: usize) -> Outcome
-    requires { ⌜ Ready (now words) m i Codes.try ⌝ }
-    ensures { λ r. ⌜ Takes (now (words .entry)) i Codes.try 0 (outcomeOf r) (now (words .exit)) ⌝ }
+pub fn attempt(body: &mut [u32], m: usize, n: usize, i: usize) -> Outcome
+    requires { ⌜ Ready m n (now body) i Codes.try ⌝ }
+    ensures { λ r. ⌜ Takes m n (now (body .entry)) i Codes.try 0 (outcomeOf r) (now (body .exit)) ⌝ }
 {
-    let own = own_numbers(words, m);
+    let own = own_numbers(body, m, n);
     let span = block_at(m, i);
     let start = span.start;
     let end = span.end;
-    if block::overtaken(&words[start..end], m, &own) {
-        block::rest(&mut words[start..end], m);
+    if block::overtaken(&body[start..end], m, &own) {
+        block::rest(&mut body[start..end], m);
         return Outcome::Aborted(Reason::Overtaken);
     }
-    if block::spent(&words[start..end], m, &own) {
-        block::rest(&mut words[start..end], m);
+    if block::spent(&body[start..end], m, &own) {
+        block::rest(&mut body[start..end], m);
         return Outcome::Aborted(Reason::Spent);
     }
-    commit(words, m, i, &own);
+    commit(body, m, n, i, &own);
     Outcome::Committed
 }

@@ -10,7 +10,7 @@ use Rattle.formed.proofs.block_faults.Tie as tie
 returns : tie.Need-returns
 returns c =
     let words = c .before .before .before .before .before .shared-slice-known .given in
-    block-sum _ _ (omega arith) (λ place. words place .fits) (c .row-faults .ensures)
+    block-sum _ _ _ (omega arith) (λ place. words place .fits) (c .row-faults .ensures)
 
 pub block-faults-spec : {M : Type 1} → statement M
 block-faults-spec =
@@ -18,6 +18,8 @@ block-faults-spec =
     (tie.spec
     -- phase and sets
     (λ c. search needs)
+    (λ c. omega arith)
+    (λ c. omega arith)
     (λ c. search needs)
     (λ c. search needs)
     (λ c. fits-32-64 (fits-or (c .before .shared-slice-known3 .given _) (c .shared-slice-known4 .given _)))

@@ -10,19 +10,19 @@ use Rattle.formed.proofs.cells_faults.Statement.{statement}
 use Rattle.formed.proofs.cells_faults.Tie as tie
 
 abbrev Inv-loop : tie.InvT-loop
-Inv-loop words m faults₀ c₀ faults c = (c ≤ m) × Gathered rowMost (λ j. Fit m (numberIn (cellPart m words j))) c faults
+Inv-loop body m faults₀ c₀ faults c = (c ≤ m) × Gathered rowMost (λ j. Fit m (numberIn (cellPart m body j))) c faults
 
 abbrev μ-loop : tie.MeasureT-loop
-μ-loop words m faults₀ c₀ faults c = m - c
+μ-loop body m faults₀ c₀ faults c = m - c
 
 -- The numbers of the cell at hand lie in the words.
 numbers : (c : tie.In-loop Inv-loop μ-loop) → let start = c .before .before .before in
-    Inside (numbersFrom (start .args .m) (c .before .loop .c)) (start .args .m) (start .args .words .now)
+    Inside (numbersFrom (start .args .m) (c .before .loop .c)) (start .args .m) (start .args .body .now)
 numbers c = numbers-inside _ _ _ (c .before .before .before .pre) (omega arith)
 
 -- The faults of the row that was looked at are those of the cell's numbers.
 looked : (c : tie.After-row-faults Inv-loop μ-loop) → let start = c .before .before .before .before .before in
-    Faults rowMost (Fit (start .args .m) (numberIn (cellPart (start .args .m) (start .args .words .now) (c .before .before .before .loop .c))))
+    Faults rowMost (Fit (start .args .m) (numberIn (cellPart (start .args .m) (start .args .body .now) (c .before .before .before .loop .c))))
     (c .row-faults .result)
 looked c = lent-faults _ _ _ (numbers (c .before .before) .ends) _ (numbers-are _ _ _) (c .row-faults .ensures)
 

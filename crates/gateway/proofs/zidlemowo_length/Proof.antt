@@ -7,7 +7,7 @@ use borrow.Author.Needs.{needs}
 use Rattle.rules.specs.Checks.{inRange}
 use Rattle.rules.proofs.Given.{range-tested}
 use Rattle.rules.proofs.Tables.{by}
-use Rattle.layout.proofs.Places.{size-small}
+use Rattle.layout.proofs.Places.{body-small}
 use Rattle.promises.specs.Lengths.{lengthFor}
 use Rattle.register.specs.Meaning.{neededIs}
 use Rattle.gateway.specs.Packed.{lengthNumber}
@@ -19,7 +19,7 @@ at-most : (m n k : ℕ) → some k ≡ lengthFor m n → k ≤ 2642
 unfolding lengthFor
 at-most m n k e = by (inRange m n)
     (λ ranged. let range = range-tested m n .0 ranged in
-    omega (arith, Option·some-injective _ _ (rw ranged at e), size-small m n (range .cells) (range .handlers)))
+    omega (arith, Option·some-injective _ _ (rw ranged at e), body-small m n (range .cells) (range .handlers)))
     (λ out. absurd (Option·some-ne-none k (rw out at e)))
 
 -- The length that the register answered.

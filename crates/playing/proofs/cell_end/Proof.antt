@@ -9,6 +9,7 @@ use borrow.Author.Tests.{not-true, not-false}
 use Rattle.layout.specs.Places.{cellsOf, handlersOf, cellStart, cellLong}
 use Rattle.layout.specs.WellFormed.{isWellFormed}
 use Rattle.layout.proofs.Tested.{tested}
+use Rattle.layout.proofs.Kept.{well-long}
 use Rattle.layout.proofs.Places.{cell-fits, cell-start-small}
 use Rattle.playing.proofs.Ends.{end-malformed, end-beyond, end-shown}
 use Rattle.playing.proofs.cell_end.Statement.{statement}
@@ -20,7 +21,7 @@ formed c = sym (c .before .well-formed .ensures) ∙ not-false _ (c .if1 .left)
 
 -- So there are more than two of them.
 long : (c : tie.Else1) → 2 ≤ length (c .before .before .before .args .words .now)
-long c = omega (arith, tested _ .0 (formed c) .long)
+long c = omega (arith, well-long (tested _ .0 (formed c)))
 
 -- Past the second the register has the cell,
 inside : (c : tie.Else2) → let args = c .before .before .before .before .before .args in args .c < cellsOf (args .words .now)
@@ -28,17 +29,17 @@ inside c = omega arith
 
 -- its words begin near the front,
 small : (c : tie.Else2) → let args = c .before .before .before .before .before .args in
-    (cellStart (cellsOf (args .words .now)) (args .c) ≤ 1058) × (cellsOf (args .words .now) ≤ 32)
+    (cellStart (cellsOf (args .words .now)) (args .c) ≤ 1056) × (cellsOf (args .words .now) ≤ 32)
 small c =
     let few = tested _ .0 (formed (c .before .before)) .range .cells in
     (cell-start-small _ _ few (omega (arith, few, inside c)), few)
 
 -- and end before the words do.
 fits : (c : tie.Else2) → let args = c .before .before .before .before .before .args in
-    cellStart (cellsOf (args .words .now)) (args .c) + cellLong (cellsOf (args .words .now)) ≤ length (args .words .now)
+    2 + cellStart (cellsOf (args .words .now)) (args .c) + cellLong (cellsOf (args .words .now)) ≤ length (args .words .now)
 fits c =
     let words = c .before .before .before .before .before .args .words .now in
-    omega (arith, cell-fits (cellsOf words) (handlersOf words) _ (inside c), tested _ .0 (formed (c .before .before)) .long)
+    omega (arith, cell-fits (cellsOf words) (handlersOf words) _ (inside c), well-long (tested _ .0 (formed (c .before .before))))
 
 pub cell-end-spec : {M : Type 1} → statement M
 cell-end-spec =

@@ -14,7 +14,6 @@ block-at-spec =
     (λ c. search needs)
     -- where the cells end
     (λ c. omega (arith, cell-start-small (c .args .m) (c .args .m) (omega arith) (omega arith)))
-    (λ c. omega (arith, cell-start-small (c .args .m) (c .args .m) (omega arith) (omega arith)))
     -- where the block begins and ends
     (λ c. omega (arith, handler-start-small (c .args .m) (c .args .i) (omega arith) (omega arith)))
     (λ c. omega (arith, handler-start-small (c .args .m) (c .args .i) (omega arith) (omega arith)))

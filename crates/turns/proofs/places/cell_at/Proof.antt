@@ -13,5 +13,4 @@ cell-at-spec =
     -- where the cell begins and ends
     (λ c. omega (arith, cell-start-small (c .args .m) (c .args .c) (omega arith) (omega arith)))
     (λ c. omega (arith, cell-start-small (c .args .m) (c .args .c) (omega arith) (omega arith)))
-    (λ c. omega (arith, cell-start-small (c .args .m) (c .args .c) (omega arith) (omega arith)))
     (λ c. search needs))

@@ -12,7 +12,7 @@ returns : tie.Need-returns
 unfolding step
 returns c =
     let at = c .before .before .before .before in
-    lent-takes (at .before .before .pre .seated) (at .block-at .ensures) (λ k h. begun (wordSetting k) h) refl refl (c .before .before .begin .ensures)
+    lent-takes (at .before .before .pre .seated) (at .block-at .ensures) (begun (wordSetting _)) refl refl (c .before .before .begin .ensures)
 
 pub begin-spec : {M : Type 1} → statement M
 begin-spec =

@@ -6,7 +6,7 @@ use native.Mathlib.Omega.{arith}
 use lib.ListN.{length}
 use borrow.Author.Needs.{needs}
 use Rattle.layout.specs.Places.{handlerLong}
-use Rattle.turns.specs.Takes.{viewed}
+use Rattle.layout.specs.View.{view}
 use Rattle.turns.proofs.Lent.{block-lies}
 use Rattle.turns.proofs.Said.{read-said, written-said, copy-said}
 use Rattle.turns.proofs.Reading.{again-takes}
@@ -16,12 +16,12 @@ use Rattle.turns.proofs.single.read.Tie as tie
 -- The handler's block lies in the words.
 lies : (c : tie.After-block-at) → let entry = c .before .before in
     let from = c .block-at .result .start in
-    (from + handlerLong (entry .args .m) ≤ length (entry .args .words .now)) × (from ≤ 2642)
+    (from + handlerLong (entry .args .m) ≤ length (entry .args .body .now)) × (from ≤ 2640)
 lies c = omega (arith, block-lies (c .before .before .pre .seated) (c .block-at .ensures))
 
 -- Whether the cell is in the read set was answered.
 read-told : (c : tie.After-has) → let entry = c .before .before .before .before .before in
-    c .has .result ≡ viewed (entry .args .words .now) .handlers (entry .args .i) .readSet (entry .args .x)
+    c .has .result ≡ view (entry .args .m) (entry .args .n) (entry .args .body .now) .handlers (entry .args .i) .readSet (entry .args .x)
 read-told c =
     let at = c .before .before .before in
     let ready = at .before .before .pre in
@@ -29,7 +29,7 @@ read-told c =
 
 -- Whether the cell is in the written set was answered.
 written-told : (c : tie.After-has2) → let entry = c .before .before .before .before .before .before .before in
-    c .has2 .result ≡ viewed (entry .args .words .now) .handlers (entry .args .i) .writtenSet (entry .args .x)
+    c .has2 .result ≡ view (entry .args .m) (entry .args .n) (entry .args .body .now) .handlers (entry .args .i) .writtenSet (entry .args .x)
 written-told c =
     let at = c .before .before .before .before .before in
     let ready = at .before .before .pre in
@@ -40,7 +40,7 @@ returns : tie.Need-returns
 returns c =
     let at = c .before .before .before .before .before in
     let ready = at .before .before .pre in
-    again-takes (ready .seated .formed .wellFormed)
+    again-takes (ready .seated .formed .good)
     (rw (sym (read-told (c .before .before)) ∙ c .before .if1 .taken))
     (copy-said (ready .seated) (at .block-at .ensures .starts) _ (ready .cell))
 
@@ -49,7 +49,7 @@ returns-2 : tie.Need-returns-2
 returns-2 c =
     let at = c .before .before .before .before .before .before .before in
     let ready = at .before .before .pre in
-    again-takes (ready .seated .formed .wellFormed)
+    again-takes (ready .seated .formed .good)
     (rw (sym (written-told (c .before .before)) ∙ c .before .if2 .taken) (simp or-true))
     (copy-said (ready .seated) (at .block-at .ensures .starts) _ (ready .cell))
 

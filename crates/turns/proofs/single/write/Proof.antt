@@ -12,7 +12,7 @@ unfolding step
 returns c =
     let at = c .before .before .before .before in
     let entry = at .before .before in
-    lent-takes (entry .pre .seated) (at .block-at .ensures) (λ k h. wrote h (entry .args .x) (entry .args .value)) refl refl
+    lent-takes (entry .pre .seated) (at .block-at .ensures) (λ h. wrote h (entry .args .x) (entry .args .value)) refl refl
     (c .before .before .write .ensures)
 
 pub write-spec : {M : Type 1} → statement M

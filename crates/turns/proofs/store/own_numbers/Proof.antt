@@ -11,10 +11,10 @@ use Rattle.turns.proofs.store.own_numbers.Statement.{statement}
 use Rattle.turns.proofs.store.own_numbers.Tie as tie
 
 abbrev Inv-loop : tie.InvT-loop
-Inv-loop words m row₀ c₀ row c = (c ≤ m) × Changed 0 c (ownNumbers words) (replicate 32 0) row
+Inv-loop body m n row₀ c₀ row c = (c ≤ m) × Changed 0 c (ownNumbers m n body) (replicate 32 0) row
 
 abbrev μ-loop : tie.MeasureT-loop
-μ-loop words m row₀ c₀ row c = m - c
+μ-loop body m n row₀ c₀ row c = m - c
 
 pub own-numbers-spec : {M : Type 1} → statement M
 own-numbers-spec =
@@ -37,7 +37,7 @@ own-numbers-spec =
     -- one more turn
     (λ c. let entry = c .before .before .before .before .before in
     let loop = c .before .before .before .loop in
-    let said = number-said (entry .args .words .now) (entry .pre .cells) (omega arith) (c .before .cell-at .ensures .starts) (loop .c) (omega arith) in
+    let said = number-said (entry .args .n) (entry .args .body .now) (omega arith) (c .before .cell-at .ensures .starts) (loop .c) (omega arith) in
     (omega arith, changed-first _ _ _ _ _ (loop .inv .1) (omega arith) said))
     -- at the end
     (λ c. changed-row (changed-all _ _ _ (c .before .loop .inv .1) (omega arith) (omega arith))))

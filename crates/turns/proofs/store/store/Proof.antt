@@ -9,10 +9,10 @@ use Rattle.turns.proofs.store.store.Statement.{statement}
 use Rattle.turns.proofs.store.store.Tie as tie
 
 abbrev Inv-loop : tie.InvT-loop
-Inv-loop words₀ m written copies numbers c₀ words c = (c ≤ m) × Stores m c written (rowTable copies) (rowTable numbers) words₀ words
+Inv-loop body₀ m written copies numbers c₀ body c = (c ≤ m) × Stores m c written (rowTable copies) (rowTable numbers) body₀ body
 
 abbrev μ-loop : tie.MeasureT-loop
-μ-loop words₀ m written copies numbers c₀ words c = m - c
+μ-loop body₀ m written copies numbers c₀ body c = m - c
 
 pub store-spec : {M : Type 1} → statement M
 store-spec =

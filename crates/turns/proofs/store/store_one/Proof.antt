@@ -12,7 +12,7 @@ use Rattle.turns.proofs.store.store_one.Statement.{statement}
 use Rattle.turns.proofs.store.store_one.Tie as tie
 
 -- A cell lies in words that are long enough for all cells.
-inside : (m c long : ℕ) → c < m → 2 + m * cellLong m ≤ long → cellStart m c + cellLong m ≤ long
+inside : (m c long : ℕ) → c < m → m * cellLong m ≤ long → cellStart m c + cellLong m ≤ long
 inside m c long h fits = omega (arith, cell-ends m c h)
 
 -- The cell is written.
@@ -37,6 +37,6 @@ store-one-spec =
     (λ c. search needs)
     -- what comes back is put in, where the cell is written
     (λ c. let at = c .before .before .before .before in
-    let words = at .before .before .before .before .args .words .now in
+    let words = at .before .before .before .before .args .body .now in
     rw (is-written (at .before)) (lent-back (at .cell-at .ensures) words (c .before .before .put-cell .ensures)))
     (λ c. rw (sym (c .before .has .ensures) ∙ c .if1 .left)))

@@ -7,10 +7,9 @@ use lib.ListN.{length, take, drop}
 use borrow.Author.Needs.{needs}
 use Rattle.rules.specs.Register.{Setting, Handler, Register, idle}
 use Rattle.rules.specs.Figure.{isOvertaken, isSpent}
-use Rattle.layout.specs.Places.{cellsOf, handlerLong}
-use Rattle.layout.specs.View.{wordSetting}
+use Rattle.layout.specs.Places.{handlerLong}
+use Rattle.layout.specs.View.{wordSetting, view}
 use Rattle.block.specs.Blocks.{Block}
-use Rattle.turns.specs.Takes.{viewed}
 use Rattle.turns.proofs.Lent.{block-lies, block-words, lent-takes}
 use Rattle.turns.proofs.Trying.{try-overtaken, try-spent}
 use Rattle.turns.proofs.Committing.{overtaken-told, spent-told, commit-takes}
@@ -20,8 +19,8 @@ use Rattle.turns.proofs.tries.attempt.Tie as tie
 -- The handler's block lies in the words.
 lies : (c : tie.After-block-at) → let entry = c .before .before .before .before in
     let from = c .block-at .result .start in
-    (from + handlerLong (entry .args .m) ≤ length (entry .args .words .now)) × (from ≤ 2642) × (from ≤ c .block-at .result .end)
-    × (c .block-at .result .end ≤ length (entry .args .words .now))
+    (from + handlerLong (entry .args .m) ≤ length (entry .args .body .now)) × (from ≤ 2640) × (from ≤ c .block-at .result .end)
+    × (c .block-at .result .end ≤ length (entry .args .body .now))
 lies c = omega (arith, block-lies (c .before .before .before .before .pre .seated) (c .block-at .ensures))
 
 -- The place where the block was found, from where its reads were looked at.
@@ -36,8 +35,8 @@ read c = c .before .before .before .before .before
 abbrev ruled : (Setting ℕ → Register ℕ → Handler ℕ → Bool) → tie.After-block-at → Bool
 ruled test c =
     let args = c .before .before .before .before .args in
-    let r = viewed (args .words .now) in
-    test (wordSetting (cellsOf (args .words .now))) r (r .handlers (args .i))
+    let r = view (args .m) (args .n) (args .body .now) in
+    test (wordSetting (args .m)) r (r .handlers (args .i))
 
 -- What the block answered of its reads is what the rules say.
 read-answer : (c : tie.After-overtaken) → c .overtaken .result ≡ ruled isOvertaken (found c)
@@ -57,7 +56,7 @@ current c = sym (read-answer (read c)) ∙ c .before .before .before .before .if
 
 -- What is lent is the words of a block.
 block : (c : tie.After-block-at) → let args = c .before .before .before .before .args in
-    Block (args .m) (take (c .block-at .result .end - c .block-at .result .start) (drop (c .block-at .result .start) (args .words .now)))
+    Block (args .m) (take (c .block-at .result .end - c .block-at .result .start) (drop (c .block-at .result .start) (args .body .now)))
 block c = block-words (c .before .before .before .before .pre .seated) (c .block-at .ensures)
 
 -- Abort 2.
@@ -65,7 +64,7 @@ returns : tie.Need-returns
 returns c =
     let then = c .before .before .before .before in
     let at = found (then .before) in
-    lent-takes (at .before .before .before .before .pre .seated) (at .block-at .ensures) (λ k h. idle (wordSetting k) (h .numbers))
+    lent-takes (at .before .before .before .before .pre .seated) (at .block-at .ensures) (λ h. idle (wordSetting (at .before .before .before .before .args .m)) (h .numbers))
     (try-overtaken _ _ _ _ (sym (read-answer (then .before)) ∙ then .if1 .taken)) refl (c .before .before .rest .ensures)
 
 -- Abort 3.
@@ -73,7 +72,7 @@ returns-2 : tie.Need-returns-2
 returns-2 c =
     let then = c .before .before .before .before in
     let at = found (read (then .before)) in
-    lent-takes (at .before .before .before .before .pre .seated) (at .block-at .ensures) (λ k h. idle (wordSetting k) (h .numbers))
+    lent-takes (at .before .before .before .before .pre .seated) (at .block-at .ensures) (λ h. idle (wordSetting (at .before .before .before .before .args .m)) (h .numbers))
     (try-spent _ _ _ _ (current (then .before)) (sym (write-answer (then .before)) ∙ then .if2 .taken)) refl (c .before .before .rest2 .ensures)
 
 pub attempt-spec : {M : Type 1} → statement M

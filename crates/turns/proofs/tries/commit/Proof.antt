@@ -13,7 +13,7 @@ use Rattle.turns.proofs.tries.commit.Tie as tie
 -- The handler's block lies in the words.
 lies : (c : tie.After-block-at) → let entry = c .before .before in
     let from = c .block-at .result .start in
-    (from + handlerLong (entry .args .m) ≤ length (entry .args .words .now)) × (from ≤ 2642)
+    (from + handlerLong (entry .args .m) ≤ length (entry .args .body .now)) × (from ≤ 2640)
 lies c = omega (arith, block-lies (c .before .before .pre .0 .seated) (c .block-at .ensures))
 
 -- What was there before the cells were stored, and before the block was settled.
@@ -21,7 +21,7 @@ abbrev stored-from : tie.After-slice-known3 → tie.After-block-at
 stored-from c = c .before .before .before .before .before .before .before .before .before .before .before .before
 
 -- The stored words are as many as before.
-stored-long : (c : tie.After-slice-known3) → length (c .before .before .store .last .0) ≡ length (stored-from c .before .before .args .words .now)
+stored-long : (c : tie.After-slice-known3) → length (c .before .before .store .last .0) ≡ length (stored-from c .before .before .args .body .now)
 stored-long c = c .before .before .store .ensures .size
 
 pub commit-spec : {M : Type 1} → statement M
@@ -47,7 +47,7 @@ commit-spec =
     (λ c. omega (arith, lies (c .before .before .before .before .before .before)))
     -- the cells are stored
     (λ c κs. let formed = c .before .before .before .before .before .before .before .before .before .before .before .pre .0 .seated .formed in
-    omega (arith, formed .few, formed .fits))
+    omega (arith, formed .few, formed .good .long))
     -- the block is settled
     (λ c. omega (arith, lies (stored-from c)))
     (λ c. omega arith)
