@@ -6,12 +6,12 @@ use mathlib.Core.List.{List}
 use mathlib.Core.Option.{some}
 use lib.ListN.{length, replicate, length-replicate}
 use borrow.Author.Tests.{lt-ltb}
-use Rattle.rules.specs.Replies.{ready}
-use Rattle.rules.specs.Register.{fresh}
-use Rattle.rules.specs.Given.{InRange}
-use Rattle.rules.specs.History.{everyCommit, noHistory}
-use Rattle.rules.proofs.Tables.{found}
-use Rattle.rules.proofs.Alike.{length-same, replay-same, versionCount-same}
+use Rattle.rules.specs.steps.Replies.{ready}
+use Rattle.rules.specs.steps.Register.{fresh}
+use Rattle.rules.specs.steps.Given.{InRange}
+use Rattle.rules.specs.history.History.{everyCommit, noHistory}
+use Rattle.rules.proofs.steps.Tables.{found}
+use Rattle.rules.proofs.history.Alike.{length-same, replay-same, versionCount-same}
 use Rattle.layout.specs.Places.{bodyOf}
 use Rattle.layout.specs.View.{wordSetting, view, registerIn}
 use Rattle.layout.proofs.Places.{body-small}
@@ -25,10 +25,10 @@ use Rattle.ledger.proofs.Histories.{Says}
 use Rattle.ledger.proofs.Opened.{ledger-ready}
 use Rattle.schedule.specs.Sound.{handlersIn, cellsIn, orderIn}
 use Rattle.schedule.specs.Taking.{atStart}
-use Rattle.schedule.specs.Judging.{fileRefusal}
+use Rattle.schedule.specs.Admitting.{fileRefusal}
 use Rattle.schedule.specs.Runs.{Played, ran, runOf}
 use Rattle.schedule.specs.Shown.{cellLine}
-use Rattle.schedule.proofs.Judges.{good-exactly}
+use Rattle.schedule.proofs.Admits.{good-exactly}
 use Rattle.judge.specs.Ending.{judgedEnd}
 use Rattle.playing.proofs.RunOf.{shownFrom, run-of-places, refused-run}
 use Rattle.agreement.specs.Agreement.{judgedFrom, Agree, JudgeAgrees}

@@ -4,14 +4,14 @@ use mathlib.Core.Path.{_≡_, refl}
 use mathlib.Core.Bool.{true, false}
 use mathlib.Core.List.{List}
 use mathlib.Core.Option.{Option, some}
-use Rattle.rules.specs.Tables.{isFound}
-use Rattle.rules.specs.Replies.{Reply}
-use Rattle.rules.proofs.Tables.{by, both-ways, or-left, or-right}
+use Rattle.rules.specs.steps.Tables.{isFound}
+use Rattle.rules.specs.steps.Replies.{Reply}
+use Rattle.rules.proofs.steps.Tables.{by, both-ways, or-left, or-right}
 use Rattle.ledger.specs.Promises.{reportsCommit}
 use Rattle.schedule.specs.Scripts.{ScriptStep}
 use Rattle.schedule.specs.Taking.{Cursors, Next, rejected, over, refused, taken, nextOf, cursorsAfter}
 use Rattle.schedule.specs.Runs.{Line, noStep, stepLine}
-use Rattle.schedule.specs.Lines.{theRegister, WordRun, inFront, lineFor, wordsFor, placesFrom}
+use Rattle.schedule.specs.Lines.{theRegister, Stretch, inFront, lineFor, wordsFor, placesFrom}
 use Rattle.judging.specs.Player.{theJudge}
 use Rattle.agreement.specs.Agreement.{tooMany, everStops}
 use Rattle.judging.specs.Stopping.{stops}
@@ -21,15 +21,15 @@ use Rattle.agreement.proofs.Beside.{beside-after, room-committed, room-
 
 -- A judged run alongside the register's: the lines with room for so many commits, and the words beside each other where the judge
 -- never stops.
-pub record Alongside (m n room : ℕ) (judged run : WordRun) : Type 0 where
+pub record Alongside (m n room : ℕ) (judged run : Stretch) : Type 0 where
   pub lines : Cut room (judged .lines) (run .lines)
   pub words : everStops (judged .lines) ≡ false → Beside m n (run .words) (judged .words)
 
 -- A run with a line in front, if there is one.
-abbrev front : Option Line → WordRun → WordRun
+abbrev front : Option Line → Stretch → Stretch
 front line rest = record { lines = inFront line (rest .lines); words = rest .words }
 
-module _ {m n : ℕ} {judged run : WordRun} (line : Line) where
+module _ {m n : ℕ} {judged run : Stretch} (line : Line) where
   -- In front of runs alongside each other comes a line of no commit,
   other-front : {room : ℕ} → stops line ≡ false → reportsCommit (line .reply) ≡ false → Alongside m n room judged run
       → Alongside m n room (front (some line) judged) (front (some line) run)
@@ -57,7 +57,7 @@ module _ {m n : ℕ} {judged run : WordRun} (line : Line) where
     words = λ never. both-ways (rw asked refl) (or-left (stops (tooMany line)) (everStops (judged .lines)) never);
   }
 
-module _ {m n : ℕ} {words ledger : List ℕ} (beside : Beside m n words ledger) (place : ℕ) (judged run : WordRun) where
+module _ {m n : ℕ} {words ledger : List ℕ} (beside : Beside m n words ledger) (place : ℕ) (judged run : Stretch) where
   -- The runs are alongside each other from after a place on, with whatever room there is then,
   abbrev GoOn : Next → Type 0
   GoOn next = (room : ℕ) → Beside m n (wordsFor theRegister words next) (wordsFor theJudge ledger next)

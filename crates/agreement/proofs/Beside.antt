@@ -6,14 +6,14 @@ use mathlib.Core.Path.{_≡_, refl, sym, ap, _∙_, subst}
 use mathlib.Core.Bool.{true, false}
 use mathlib.Core.List.{List}
 use borrow.Author.Tests.{le-leb, lt-leb}
-use Rattle.rules.specs.Codes.{kindOf}
-use Rattle.rules.specs.Replies.{tooManyCommits, Reply}
-use Rattle.rules.specs.History.{History, noteReply}
-use Rattle.rules.specs.Demand.{Ask}
-use Rattle.rules.specs.Judge.{judgement}
+use Rattle.rules.specs.steps.Codes.{kindOf}
+use Rattle.rules.specs.steps.Replies.{tooManyCommits, Reply}
+use Rattle.rules.specs.history.History.{History, noteReply}
+use Rattle.rules.specs.demand.Demand.{Ask}
+use Rattle.rules.specs.demand.Judge.{judgement}
 use Rattle.layout.specs.View.{wordSetting}
 use Rattle.promises.specs.Stepping.{StepPromise}
-use Rattle.promises.specs.Runs.{WordRun, stepped}
+use Rattle.promises.specs.Runs.{Stretch, stepped}
 use Rattle.promises.proofs.Inherits.{words-inherit}
 use Rattle.ledger.specs.Entries.{commitsNoted, mostCommits}
 use Rattle.ledger.specs.Promises.{reportsCommit, limited}
@@ -30,7 +30,7 @@ use Rattle.agreement.proofs.Counts.{told-other, counted, judge-counts}
 pub record Beside (m n : ℕ) (words ledger : List ℕ) : Type 0 where
   pub asks : List (Ask ℕ)
   pub history : History ℕ
-  pub run : WordRun m n asks words history
+  pub run : Stretch m n asks words history
   pub says : Says m n ledger history
 
 -- The judge has room for so many commits.

@@ -8,19 +8,19 @@ use mathlib.Core.Logic.{inl, inr}
 use lib.ListN.{length}
 use lib.Dec.{eqb}
 use borrow.Author.Tests.{ne-eqb}
-use Rattle.rules.specs.Tables.{if_then_else_}
-use Rattle.rules.specs.Codes.{Step, begin, try, read, write, known, kindOf}
-use Rattle.rules.specs.Replies.{Outcome, ok, value, committed, aborted, Refusal, tooManyCommits, refusalNumber, Reply}
-use Rattle.rules.specs.Register.{Setting}
-use Rattle.rules.specs.Checks.{Asked}
-use Rattle.rules.specs.Given.{Given}
-use Rattle.rules.specs.History.{History, note, noteOk, noteValue, noteCommit, noteAbort, doing, ended, noteReply}
-use Rattle.rules.specs.Judge.{askedByHistory, judgement}
-use Rattle.rules.proofs.Given.{Verdict, verdict}
-use Rattle.rules.proofs.Judged.{judged-refused, judged-free}
-use Rattle.rules.proofs.Alike.{length-same}
-use Rattle.rules.proofs.Numbers.{refusals-apart}
-use Rattle.rules.proofs.ThirdDemand.{note-refused}
+use Rattle.rules.specs.steps.Tables.{if_then_else_}
+use Rattle.rules.specs.steps.Codes.{Step, begin, try, read, write, known, kindOf}
+use Rattle.rules.specs.steps.Replies.{Outcome, ok, value, committed, aborted, Refusal, tooManyCommits, refusalNumber, Reply}
+use Rattle.rules.specs.steps.Register.{Setting}
+use Rattle.rules.specs.steps.Checks.{Asked}
+use Rattle.rules.specs.steps.Given.{Given}
+use Rattle.rules.specs.history.History.{History, note, noteOk, noteValue, noteCommit, noteAbort, doing, ended, noteReply}
+use Rattle.rules.specs.demand.Judge.{askedByHistory, judgement}
+use Rattle.rules.proofs.steps.Given.{Verdict, verdict}
+use Rattle.rules.proofs.demand.Admitted.{judged-refused, judged-free}
+use Rattle.rules.proofs.history.Alike.{length-same}
+use Rattle.rules.proofs.steps.Numbers.{refusals-apart}
+use Rattle.rules.proofs.demand.ThirdDemand.{note-refused}
 use Rattle.layout.specs.Places.{cellsOf}
 use Rattle.ledger.specs.Entries.{Ledger, commitsNoted}
 use Rattle.ledger.specs.Histories.{historyIn}

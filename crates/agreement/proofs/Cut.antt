@@ -7,7 +7,7 @@ use mathlib.Core.Bool.{true, false}
 use mathlib.Core.List.{List, [], _∷_}
 use lib.Dec.{ltb, leb·suc-suc}
 use borrow.Author.Tests.{lt-ltb, le-ltb}
-use Rattle.rules.specs.Tables.{isFound}
+use Rattle.rules.specs.steps.Tables.{isFound}
 use Rattle.ledger.specs.Promises.{reportsCommit}
 use Rattle.schedule.specs.Runs.{Line}
 use Rattle.agreement.specs.Agreement.{tooMany, cutAfter, commitsAmong, untilStop, everStops}

@@ -7,13 +7,13 @@ use mathlib.Core.List.{List, [], _∷_}
 use mathlib.Core.Option.{some}
 use lib.ListN.{length}
 use lib.Dec.{ltb}
-use Rattle.rules.specs.Tables.{if_then_else_}
-use Rattle.rules.specs.Replies.{tooManyCommits, Reply, ready}
+use Rattle.rules.specs.steps.Tables.{if_then_else_}
+use Rattle.rules.specs.steps.Replies.{tooManyCommits, Reply, ready}
 use Rattle.ledger.specs.Promises.{reportsCommit, LedgerPromise}
 use Rattle.schedule.specs.Sound.{orderIn}
 use Rattle.schedule.specs.Taking.{atStart}
 use Rattle.schedule.specs.Runs.{Line, Run, ran, runOf}
-use Rattle.schedule.specs.Lines.{placesFrom, WordRun}
+use Rattle.schedule.specs.Lines.{placesFrom, Stretch}
 use Rattle.schedule.specs.Shown.{cellLine}
 use Rattle.judging.specs.Player.{theJudge}
 use Rattle.judging.specs.Stopping.{stops}
@@ -52,11 +52,11 @@ everStops (line ∷ lines) = stops line || everStops lines
 -- ── The agreement ─────────────────────────────────────────────────────
 
 -- What the judge makes of a file on words of its own: its places one after another.
-abbrev pub judgedFrom : List ℕ → List ℕ → WordRun
+abbrev pub judgedFrom : List ℕ → List ℕ → Stretch
 judgedFrom file words = placesFrom theJudge file (length (orderIn file)) atStart 0 words
 
 -- A judged run and the runner's run of m cells:
-pub record Agree (m : ℕ) (judged : WordRun) (run : Run) : Type 0 where
+pub record Agree (m : ℕ) (judged : Stretch) (run : Run) : Type 0 where
   -- the judge's lines, up to the one at which it stops, are the runner's, cut at a 65th commit;
   pub lines : untilStop (judged .lines) ≡ cutAfter 64 (run .lines)
   -- it stops exactly when the runner reports more than 64 commits;

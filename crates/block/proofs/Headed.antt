@@ -6,8 +6,8 @@ use mathlib.Core.Bool.{Bool, true, false}
 use mathlib.Core.List.{List}
 use native.Mathlib.Omega.{arith}
 use lib.ListN.{length, getD, set}
-use Rattle.rules.specs.Register.{Handler, noCells, zeros, idle}
-use Rattle.rules.specs.Figure.{begun}
+use Rattle.rules.specs.steps.Register.{Handler, noCells, zeros, idle}
+use Rattle.rules.specs.steps.Figure.{begun}
 use Rattle.layout.specs.Places.{handlerLong, phaseIn, readSetIn, writtenSetIn, handlerNumberIn, transactionNumberIn, copyIn}
 use Rattle.layout.specs.View.{wordSetting, viewHandler, pourHandler}
 use Rattle.layout.proofs.Bits.{mask-none}

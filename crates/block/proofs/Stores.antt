@@ -6,8 +6,8 @@ use mathlib.Core.List.{List}
 use native.Mathlib.Omega.{arith}
 use lib.ListN.{length, getD, set, length-set}
 use lib.Seq.{getD-set-same, getD-set-other}
-use Rattle.rules.specs.Tables.{put}
-use Rattle.rules.proofs.Tables.{put-each}
+use Rattle.rules.specs.steps.Tables.{put}
+use Rattle.rules.proofs.steps.Tables.{put-each}
 use Rattle.layout.specs.Bits.{hasBit, mask}
 use Rattle.layout.proofs.Bits.{withBit, mask-small, mask-ext, mask-with, has-mask}
 

@@ -6,10 +6,10 @@ use mathlib.Core.Bool.{Bool, not, _&&_}
 use mathlib.Core.List.{List}
 use lib.Dec.{eqb}
 use lib.ListN.{length, getD}
-use Rattle.rules.specs.Tables.{if_then_else_, someBelow}
-use Rattle.rules.specs.Replies.{Outcome, torn, aborted}
-use Rattle.rules.specs.Register.{Cell, Handler, idle}
-use Rattle.rules.specs.Figure.{joined, taken, shown, isTorn}
+use Rattle.rules.specs.steps.Tables.{if_then_else_, someBelow}
+use Rattle.rules.specs.steps.Replies.{Outcome, torn, aborted}
+use Rattle.rules.specs.steps.Register.{Cell, Handler, idle}
+use Rattle.rules.specs.steps.Figure.{joined, taken, shown, isTorn}
 use Rattle.layout.specs.Bits.{hasBit}
 use Rattle.layout.specs.Places.{handlerLong, phaseIn, readSetIn, transactionNumberIn}
 use Rattle.layout.specs.View.{wordSetting, pourHandler}

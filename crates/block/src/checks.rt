@@ -4,7 +4,7 @@ ghost use mathlib.Core.Bool.{not, _&&_};
 ghost use Prim.Native.Nat.{ℕ, _+_, _≤_, _<_};
 ghost use lib.Dec.{eqb};
 ghost use lib.ListN.{getD};
-ghost use Rattle.rules.specs.Tables.{if_then_else_};
+ghost use Rattle.rules.specs.steps.Tables.{if_then_else_};
 ghost use Rattle.layout.specs.Bits.{hasBit};
 ghost use Rattle.layout.specs.View.{viewHandler};
 ghost use Rattle.words.specs.Rows.{RowOf};

@@ -1,8 +1,8 @@
 // A transaction's begin, its writes, and its end.
 ghost use mathlib.Core.Path.{_≡_};
 ghost use Prim.Native.Nat.{_<_};
-ghost use Rattle.rules.specs.Register.{idle};
-ghost use Rattle.rules.specs.Figure.{begun, wrote};
+ghost use Rattle.rules.specs.steps.Register.{idle};
+ghost use Rattle.rules.specs.steps.Figure.{begun, wrote};
 ghost use Rattle.layout.specs.View.{wordSetting, viewHandler, pourHandler};
 ghost use Rattle.block.specs.Blocks.{Block, OpenBlock, rowTable};
 

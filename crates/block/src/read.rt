@@ -3,12 +3,12 @@ ghost use mathlib.Core.Path.{_≡_};
 ghost use mathlib.Core.Bool.{_&&_};
 ghost use Prim.Native.Nat.{_+_, _<_, max};
 ghost use lib.Dec.{ltb};
-ghost use Rattle.rules.specs.Tables.{if_then_else_};
-ghost use Rattle.rules.specs.Figure.{isTorn};
+ghost use Rattle.rules.specs.steps.Tables.{if_then_else_};
+ghost use Rattle.rules.specs.steps.Figure.{isTorn};
 ghost use Rattle.layout.specs.Bits.{hasBit};
 ghost use Rattle.layout.specs.View.{wordSetting, viewHandler};
 ghost use Rattle.words.specs.Rows.{Changed};
-ghost use Rattle.replies.specs.Meaning.{outcomeOf};
+ghost use Rattle.replies.specs.Meaning.{outcomeIs};
 ghost use Rattle.block.specs.Blocks.{Block, OpenBlock, rowCell, raisedBy, ReadsFirst};
 use crate::ends::rest;
 use replies::Outcome;
@@ -67,7 +67,7 @@ fn raise(block: &mut [u32], m: usize, numbers: &[u32; 32])
 // The first read of cell x: it joins the read set at its own number; then abort 1, or the numbers are raised and the copy taken.
 pub fn first_read(block: &mut [u32], m: usize, x: usize, value: u32, numbers: &[u32; 32]) -> Outcome
     requires { ⌜ OpenBlock m (now block) × (x < m) ⌝ }
-    ensures { λ r. ⌜ ReadsFirst m (viewHandler m (now (block .entry))) x (rowCell value (now (numbers .entry))) (outcomeOf r) (now (block .exit)) ⌝ }
+    ensures { λ r. ⌜ ReadsFirst m (viewHandler m (now (block .entry))) x (rowCell value (now (numbers .entry))) (outcomeIs r) (now (block .exit)) ⌝ }
 {
     let transaction = 3 + m;
     let copies = 3 + 2 * m;

@@ -1,14 +1,14 @@
 -- K1 to K12: one claim over the one list of cases, which antt computes.
 use mathlib.Core.Path.{_≡_, refl}
 use mathlib.Core.List.{map}
-use Rattle.rules.specs.Tables.{put, orElse, lowest, someBelow}
-use Rattle.rules.specs.Codes.{kindOf}
-use Rattle.rules.specs.Register.{withHandler, idle, blank, fresh}
-use Rattle.rules.specs.Checks.{firstHit, stepChecks, inRange, openingChecks}
-use Rattle.rules.specs.Figure.{joined, taken, wrote, shown, stamped, stored, begun, isTorn, isOvertaken, isSpent}
-use Rattle.rules.specs.Figure.{aborting, committing, unlessAborted, readChecks, tryChecks, firstRead, reading, trying, step}
-use Rattle.rules.specs.Turn.{refusalOf, turned, turn}
-use Rattle.rules.specs.Cases.{cases}
+use Rattle.rules.specs.steps.Tables.{put, orElse, lowest, someBelow}
+use Rattle.rules.specs.steps.Codes.{kindOf}
+use Rattle.rules.specs.steps.Register.{withHandler, idle, blank, fresh}
+use Rattle.rules.specs.steps.Checks.{firstHit, stepChecks, inRange, openingChecks}
+use Rattle.rules.specs.steps.Figure.{joined, taken, wrote, shown, stamped, stored, begun, isTorn, isOvertaken, isSpent}
+use Rattle.rules.specs.steps.Figure.{aborting, committing, unlessAborted, readChecks, tryChecks, firstRead, reading, trying, step}
+use Rattle.rules.specs.steps.Turn.{stepRefusal, turned, turn}
+use Rattle.rules.specs.demand.Cases.{cases}
 use Rattle.layout.specs.Bits.{hasBit, mask}
 use Rattle.layout.specs.Rows.{row, rows, below}
 use Rattle.layout.specs.View.{viewCell, viewHandler, view, pourCell, pourHandler, pour}
@@ -25,5 +25,5 @@ unfolding made said playFrom playLines openingNumbers saidReplies saidCounts sai
     hasBit mask row rows below put orElse lowest someBelow kindOf
     withHandler idle blank fresh firstHit stepChecks inRange openingChecks
     joined taken wrote shown stamped stored begun isTorn isOvertaken isSpent aborting committing
-    unlessAborted readChecks tryChecks firstRead reading trying step refusalOf turned turn
+    unlessAborted readChecks tryChecks firstRead reading trying step stepRefusal turned turn
 all-cases = refl

@@ -5,13 +5,13 @@ use mathlib.Core.List.{List, [], _∷_}
 use native.Mathlib.Omega.{arith}
 use lib.Dec.{ltb}
 use lib.ListN.{getD}
-use Rattle.rules.specs.Tables.{if_then_else_, put, orElse, lowest, someBelow}
-use Rattle.rules.specs.Codes.{kindOf}
-use Rattle.rules.specs.Replies.{Reason, Outcome, ok, committed, aborted, Refusal, Report, Reply, reported, refused, outcomeNumbers, replyNumbers}
-use Rattle.rules.specs.Register.{Register, Handler, Cell, withHandler, idle}
-use Rattle.rules.specs.Checks.{firstHit, stepChecks, inRange}
-use Rattle.rules.specs.Figure.{begun, stamped, stored, isOvertaken, isSpent, aborting, committing, unlessAborted, tryChecks, trying, step}
-use Rattle.rules.specs.Turn.{refusalOf, turned, turn}
+use Rattle.rules.specs.steps.Tables.{if_then_else_, put, orElse, lowest, someBelow}
+use Rattle.rules.specs.steps.Codes.{kindOf}
+use Rattle.rules.specs.steps.Replies.{Reason, Outcome, ok, committed, aborted, Refusal, Report, Reply, reported, refused, outcomeNumbers, replyNumbers}
+use Rattle.rules.specs.steps.Register.{Register, Handler, Cell, withHandler, idle}
+use Rattle.rules.specs.steps.Checks.{firstHit, stepChecks, inRange}
+use Rattle.rules.specs.steps.Figure.{begun, stamped, stored, isOvertaken, isSpent, aborting, committing, unlessAborted, tryChecks, trying, step}
+use Rattle.rules.specs.steps.Turn.{stepRefusal, turned, turn}
 use Rattle.layout.specs.Bits.{hasBit, mask}
 use Rattle.layout.specs.Rows.{row, rows, below}
 use Rattle.layout.specs.Places.{cellsOf, handlersOf}
@@ -47,7 +47,7 @@ computed : OneTransaction
 unfolding inPhase turnOf stepWords
     everyBelow numbersFit isGoodBlock isGoodBody isWellFormed viewCell viewHandler view pourCell pourHandler pour
     hasBit mask row rows below put orElse lowest someBelow kindOf withHandler idle firstHit stepChecks inRange
-    stamped stored begun isOvertaken isSpent aborting committing unlessAborted tryChecks trying step refusalOf turned turn
+    stamped stored begun isOvertaken isSpent aborting committing unlessAborted tryChecks trying step stepRefusal turned turn
 computed = record { begun = refl; phase = refl; tried = refl }
 
 module _ {e : Engine} (keeps : KeepsPromise e) where
@@ -117,7 +117,7 @@ two-cells : TwoCells
 unfolding bothWritten onePass storedAtOnce turnOf stepWords
     everyBelow numbersFit isGoodBlock isGoodBody isWellFormed viewCell viewHandler view pourCell pourHandler pour
     hasBit mask row rows below put orElse lowest someBelow kindOf withHandler idle firstHit stepChecks inRange
-    stamped stored begun isOvertaken isSpent aborting committing unlessAborted tryChecks trying step refusalOf turned turn
+    stamped stored begun isOvertaken isSpent aborting committing unlessAborted tryChecks trying step stepRefusal turned turn
 two-cells = record { tried = refl; raised = refl; missed = refl }
 
 -- No engine that keeps the promise commits in one pass.

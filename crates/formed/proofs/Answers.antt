@@ -7,10 +7,10 @@ use native.Mathlib.Omega.{arith}
 use lib.Dec.{eqb}
 use lib.ListN.{length}
 use borrow.Author.Tests.{eqb-true, eq-eqb}
-use Rattle.rules.specs.Checks.{inRange}
-use Rattle.rules.specs.Given.{InRange}
-use Rattle.rules.proofs.Given.{range-tested}
-use Rattle.rules.proofs.Tables.{by, same-test}
+use Rattle.rules.specs.steps.Checks.{inRange}
+use Rattle.rules.specs.steps.Given.{InRange}
+use Rattle.rules.proofs.steps.Given.{range-tested}
+use Rattle.rules.proofs.steps.Tables.{by, same-test}
 use Rattle.layout.specs.Places.{cellsOf, handlersOf, bodyOf, bodyLong, cellPart, handlerPart, numberIn, phaseIn}
 use Rattle.layout.specs.WellFormed.{GoodBlock, WellFormed, isGoodBody, isWellFormed}
 use Rattle.layout.proofs.Tested.{body-iff, tested}

@@ -9,7 +9,7 @@ use lib.Bits.{bitOr}
 use lib.Dec.{ltb}
 use lib.ListN.{length, getD, take, drop}
 use borrow.Author.Tests.{ltb-true, ltb-false}
-use Rattle.rules.proofs.Tables.{by}
+use Rattle.rules.proofs.steps.Tables.{by}
 use Rattle.layout.specs.Places.{cellLong, handlerLong, bodyLong, cellStart, handlerStart, cellPart, handlerPart, numberIn}
 use Rattle.layout.specs.Places.{phaseIn, readSetIn, writtenSetIn, handlerNumberIn, transactionNumberIn}
 use Rattle.layout.specs.Rows.{part}

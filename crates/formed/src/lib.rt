@@ -3,7 +3,7 @@
 ghost use mathlib.Core.Path.{_≡_};
 ghost use Prim.Native.Nat.{ℕ, _*_, _≤_, _<_};
 ghost use lib.ListN.{length, getD};
-ghost use Rattle.rules.specs.Checks.{inRange};
+ghost use Rattle.rules.specs.steps.Checks.{inRange};
 ghost use Rattle.layout.specs.Places.{bodyLong, handlerLong, cellPart, handlerPart, numberIn, phaseIn};
 ghost use Rattle.layout.specs.WellFormed.{GoodBlock, isGoodBody, isWellFormed};
 ghost use Rattle.formed.specs.Faults.{Faults, rowMost, blockMost};

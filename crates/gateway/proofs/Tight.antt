@@ -2,7 +2,7 @@
 use Prim.Native.Nat.{ℕ}
 use mathlib.Core.Path.{_≡_, sym, ap, _∙_}
 use mathlib.Core.List.{List}
-use Rattle.rules.specs.Replies.{replyNumbers}
+use Rattle.rules.specs.steps.Replies.{replyNumbers}
 use Rattle.promises.proofs.Tight.{opening-determined, step-determined}
 use Rattle.gateway.specs.Packed.{openingNumber, packed, LengthNumber, OpeningNumber, StepNumber}
 

@@ -3,7 +3,7 @@ use Prim.Native.Nat.{ℕ, _+_, _*_, _^_}
 use mathlib.Core.Path.{_≡_}
 use mathlib.Core.List.{List}
 use mathlib.Core.Option.{Option, none, some}
-use Rattle.rules.specs.Replies.{Opening, ready, refused, refusalNumber, Numbers, Reply, replyNumbers}
+use Rattle.rules.specs.steps.Replies.{Opening, ready, refused, refusalNumber, Numbers, Reply, replyNumbers}
 use Rattle.promises.specs.Lengths.{lengthFor}
 use Rattle.promises.specs.Opening.{OpeningPromise}
 use Rattle.promises.specs.Stepping.{StepPromise}

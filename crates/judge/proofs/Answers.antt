@@ -6,26 +6,26 @@ use mathlib.Core.Bool.{Bool, true, false, _||_}
 use mathlib.Core.List.{List}
 use lib.ListN.{getD}
 use borrow.Author.Tests.{lt-ltb}
-use Rattle.rules.specs.Tables.{if_then_else_, someBelow}
-use Rattle.rules.specs.Codes.{Step, try, read}
-use Rattle.rules.specs.Replies.{torn, overtaken, value, committed, aborted}
-use Rattle.rules.specs.Register.{Setting}
-use Rattle.rules.specs.Checks.{firstHit}
-use Rattle.rules.specs.History.{Deed, Commit, hasRead, hasWritten, writer, everyCommit}
-use Rattle.rules.specs.Past.{tears}
-use Rattle.rules.specs.Replay.{replay}
-use Rattle.rules.specs.Judge.{copied, stale, orAborted, answerRead, answerTry, answer}
-use Rattle.rules.proofs.NeverSpent.{short-try}
+use Rattle.rules.specs.steps.Tables.{if_then_else_, someBelow}
+use Rattle.rules.specs.steps.Codes.{Step, try, read}
+use Rattle.rules.specs.steps.Replies.{torn, overtaken, value, committed, aborted}
+use Rattle.rules.specs.steps.Register.{Setting}
+use Rattle.rules.specs.steps.Checks.{firstHit}
+use Rattle.rules.specs.history.History.{Deed, Commit, hasRead, hasWritten, writer, everyCommit}
+use Rattle.rules.specs.history.Past.{tears}
+use Rattle.rules.specs.history.Replay.{replay}
+use Rattle.rules.specs.demand.Judge.{copied, stale, orAborted, answerRead, answerTry, answer}
+use Rattle.rules.proofs.demand.NeverSpent.{short-try}
 use Rattle.layout.specs.Places.{cellsOf, handlersOf}
 use Rattle.layout.specs.View.{wordSetting}
 use Rattle.ledger.specs.Entries.{Ledger, Entry, entryIn, withEntry, commitsNoted, mostCommits, handlerRow}
 use Rattle.ledger.specs.Histories.{deedsOf, commitsIn, historyIn}
-use Rattle.ledger.specs.Noting.{emptyEntry, readEntry, noteRead, noteOutcome, noteCommit}
+use Rattle.ledger.specs.Noting.{emptyEntry, readEntry, noteRead, noteOutcome, noteCommitRow}
 use Rattle.ledger.specs.Promises.{isCommit}
 use Rattle.ledger.proofs.Deeds.{hasSource, copies-at, reads-at, written-at}
 use Rattle.ledger.proofs.Commits.{commits-count}
 use Rattle.ledger.proofs.Notes.{now-is}
-use Rattle.judge.specs.Taking.{answerOf, Ready, Roomy, Takes}
+use Rattle.judge.specs.Taking.{answerOf, JudgeReady, HasRoom, TakesNoted}
 
 module _ (words : List ℕ) where
   -- The rules over these words.
@@ -65,7 +65,7 @@ module _ {words : List ℕ} {i : ℕ} (ledger : Ledger words) (seat : i < handle
       ap (answerTry (S words) (commits words)) (now-is ledger seat)
       ∙ short-try (S words) (commits words) (deeds words i) (omega (arith, ledger .few, commits-count (cellsOf words) words (commitsNoted words)))
 
-module _ {words : List ℕ} {m i x : ℕ} (ready : Ready words m i (read x)) where
+module _ {words : List ℕ} {m i x : ℕ} (ready : JudgeReady words m i (read x)) where
   -- The row of the handler.
   abbrev entry : Entry
   entry = entryIn words (handlerRow i)
@@ -100,13 +100,13 @@ module _ {words : List ℕ} {m i x : ℕ} (ready : Ready words m i (read x)) whe
   -- ── What is taken ───────────────────────────────────────────────────
 
   -- A read that is answered with the copy leaves the words,
-  pub takes-again : touched words i x ≡ true → (v : ℕ) → Takes words i (read x) v (value (getD words ((1 + i) * 66 + (34 + x)) 0)) words
+  pub takes-again : touched words i x ≡ true → (v : ℕ) → TakesNoted words i (read x) v (value (getD words ((1 + i) * 66 + (34 + x)) 0)) words
   unfolding noteOutcome noteRead entryIn
   takes-again t v = record { replied = sym (answer-again t); left = rw (answer-again t, touched-is ∙ t) }
 
   -- one that is torn ends the transaction,
   pub takes-torn : touched words i x ≡ false → isTorn words i x ≡ true → (v : ℕ) {after : List ℕ}
-      → after ≡ withEntry words (handlerRow i) (emptyEntry 0) → Takes words i (read x) v (aborted torn) after
+      → after ≡ withEntry words (handlerRow i) (emptyEntry 0) → TakesNoted words i (read x) v (aborted torn) after
   unfolding noteOutcome
   takes-torn first t v left = record { replied = sym (answer-torn first t); left = left ∙ rw (answer-torn first t) }
 
@@ -120,7 +120,7 @@ module _ {words : List ℕ} {m i x : ℕ} (ready : Ready words m i (read x)) whe
   pub takes-first : touched words i x ≡ false → isTorn words i x ≡ false → (v place found : ℕ) {after : List ℕ}
       → place ≡ writer (commits words) x → found ≡ replay (S words) (commits words) everyCommit x
       → after ≡ withEntry words (handlerRow i) (readEntry entry x place found)
-      → Takes words i (read x) v (value found) after
+      → TakesNoted words i (read x) v (value found) after
   unfolding noteOutcome
   takes-first first t v place found wrote holds left = record {
     replied = ap value holds ∙ sym (answer-first first t);
@@ -128,29 +128,29 @@ module _ {words : List ℕ} {m i x : ℕ} (ready : Ready words m i (read x)) whe
         ∙ sym (first-noted first (replay (S words) (commits words) everyCommit x)) ∙ rw (answer-first first t);
   }
 
-module _ {words : List ℕ} {m i : ℕ} (ready : Ready words m i try) where
+module _ {words : List ℕ} {m i : ℕ} (ready : JudgeReady words m i try) where
   -- A try with a stale read ends the transaction,
   pub takes-overtaken : isStale words i ≡ true → (v : ℕ) {after : List ℕ}
-      → after ≡ withEntry words (handlerRow i) (emptyEntry 0) → Takes words i try v (aborted overtaken) after
+      → after ≡ withEntry words (handlerRow i) (emptyEntry 0) → TakesNoted words i try v (aborted overtaken) after
   unfolding noteOutcome
   takes-overtaken t v left =
       let said : answerOf words i try ≡ aborted overtaken = try-asked (ready .ledger) (ready .handler) ∙ rw t in
       record { replied = sym said; left = left ∙ rw said }
 
   -- and one without commits.
-  pub takes-commit : isStale words i ≡ false → (v : ℕ) {after : List ℕ} → after ≡ noteCommit words i → Takes words i try v committed after
+  pub takes-commit : isStale words i ≡ false → (v : ℕ) {after : List ℕ} → after ≡ noteCommitRow words i → TakesNoted words i try v committed after
   unfolding noteOutcome
   takes-commit t v left =
       let said : answerOf words i try ≡ committed = try-asked (ready .ledger) (ready .handler) ∙ rw t in
       record { replied = sym said; left = left ∙ rw said }
 
   -- If there is room for what a try comes to, there is room for its commit.
-  pub commit-room : Roomy words i try → isStale words i ≡ false → commitsNoted words < mostCommits
+  pub commit-room : HasRoom words i try → isStale words i ≡ false → commitsNoted words < mostCommits
   commit-room room t = room (ap isCommit (try-asked (ready .ledger) (ready .handler)) ∙ rw t)
 
 -- ── What was asked ────────────────────────────────────────────────────
 
-module _ {words : List ℕ} {m i : ℕ} {s : Step} (ready : Ready words m i s) {told : Bool} where
+module _ {words : List ℕ} {m i : ℕ} {s : Step} (ready : JudgeReady words m i s) {told : Bool} where
   -- What was found stale of m cells is what the words' cells say,
   pub stale-told : told ≡ someBelow m (stale (commitsIn m words (commitsNoted words)) (deedsOf (entryIn words (handlerRow i)) m))
       → isStale words i ≡ told

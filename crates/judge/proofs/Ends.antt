@@ -5,9 +5,9 @@ use mathlib.Core.Bool.{false, and-false}
 use mathlib.Core.List.{List}
 use mathlib.Core.Option.{none, some}
 use borrow.Author.Tests.{lt-ltb, le-ltb}
-use Rattle.rules.specs.History.{everyCommit}
-use Rattle.rules.specs.Replay.{replay}
-use Rattle.rules.specs.Judge.{versionCount}
+use Rattle.rules.specs.history.History.{everyCommit}
+use Rattle.rules.specs.history.Replay.{replay}
+use Rattle.rules.specs.demand.Judge.{versionCount}
 use Rattle.layout.specs.Places.{cellsOf}
 use Rattle.layout.specs.View.{wordSetting}
 use Rattle.schedule.specs.Shown.{CellLine}

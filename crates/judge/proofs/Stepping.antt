@@ -4,22 +4,22 @@ use mathlib.Core.Path.{_≡_, refl, sym, ap, ap₂, _∙_}
 use mathlib.Core.Bool.{Bool, false}
 use mathlib.Core.List.{List}
 use mathlib.Core.Option.{Option, none, some}
-use Rattle.rules.specs.Codes.{Step, Kind, known, kindOf}
-use Rattle.rules.specs.Replies.{Refusal, notWellFormed, Reply}
-use Rattle.rules.specs.Checks.{firstHit, stepChecks}
-use Rattle.rules.specs.Demand.{reportedTo}
-use Rattle.rules.specs.Judge.{askedByHistory, judgement}
-use Rattle.rules.proofs.Given.{given-exactly, free-exactly}
-use Rattle.rules.proofs.Judged.{judged-refused, judged-free}
+use Rattle.rules.specs.steps.Codes.{Step, Kind, known, kindOf}
+use Rattle.rules.specs.steps.Replies.{Refusal, notWellFormed, Reply}
+use Rattle.rules.specs.steps.Checks.{firstHit, stepChecks}
+use Rattle.rules.specs.demand.Demand.{reportedTo}
+use Rattle.rules.specs.demand.Judge.{askedByHistory, judgement}
+use Rattle.rules.proofs.steps.Given.{given-exactly, free-exactly}
+use Rattle.rules.proofs.demand.Judged.{judged-refused, judged-free}
 use Rattle.layout.specs.Places.{cellsOf, handlersOf}
 use Rattle.layout.specs.View.{wordSetting}
-use Rattle.steps.specs.Meaning.{askedPlainly}
+use Rattle.checks.specs.Meaning.{askedPlainly}
 use Rattle.ledger.specs.Entries.{commitsNoted, Ledger, isLedger}
 use Rattle.ledger.specs.Histories.{historyIn}
 use Rattle.ledger.specs.Noting.{noteWords}
 use Rattle.ledger.specs.Promises.{limited, judgedReply, JudgedPromise}
 use Rattle.ledger.proofs.Steps.{limited-other, refusal-unnoted, reply-limited}
-use Rattle.judge.specs.Taking.{answerOf, Ready, Passes}
+use Rattle.judge.specs.Taking.{answerOf, JudgeReady, Passes}
 
 module _ (words : List ℕ) (handler code : ℕ) where
   -- What the checks say of a step by the history.
@@ -65,7 +65,7 @@ module _ (words : List ℕ) (handler code value : ℕ) where
 
     module _ (e : says words handler code ≡ none) where
       -- What they let through is ready,
-      pub step-ready : (s : Step) × (kindOf code ≡ known s) × Ready words (cellsOf words) handler s
+      pub step-ready : (s : Step) × (kindOf code ≡ known s) × JudgeReady words (cellsOf words) handler s
       step-ready =
           let (s, free) = free-exactly _ .0 e in (
             s,

@@ -6,15 +6,15 @@ use mathlib.Core.List.{List}
 use lib.ListN.{length, getD}
 use lib.Dec.{eqb, leb}
 use borrow.Author.Tests.{lt-leb, le-leb}
-use Rattle.rules.specs.Tables.{if_then_else_}
-use Rattle.rules.specs.Codes.{Step, begin, try, read, write}
-use Rattle.rules.specs.Replies.{overtaken, committed, aborted}
-use Rattle.rules.specs.Checks.{inRange, firstHit}
-use Rattle.rules.specs.Register.{Setting}
-use Rattle.rules.specs.History.{Deed, Commit, hasRead, hasWritten, writer}
-use Rattle.rules.specs.Past.{tears}
-use Rattle.rules.specs.Judge.{orAborted, answerRead, answer}
-use Rattle.rules.proofs.Tables.{by}
+use Rattle.rules.specs.steps.Tables.{if_then_else_}
+use Rattle.rules.specs.steps.Codes.{Step, begin, try, read, write}
+use Rattle.rules.specs.steps.Replies.{overtaken, committed, aborted}
+use Rattle.rules.specs.steps.Checks.{inRange, firstHit}
+use Rattle.rules.specs.steps.Register.{Setting}
+use Rattle.rules.specs.history.History.{Deed, Commit, hasRead, hasWritten, writer}
+use Rattle.rules.specs.history.Past.{tears}
+use Rattle.rules.specs.demand.Judge.{orAborted, answerRead, answer}
+use Rattle.rules.proofs.steps.Tables.{by}
 use Rattle.layout.specs.Places.{cellsOf, handlersOf}
 use Rattle.layout.specs.View.{wordSetting}
 use Rattle.layout.proofs.Rows.{below-beyond}

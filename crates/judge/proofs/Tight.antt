@@ -4,7 +4,7 @@ use mathlib.Core.Path.{_≡_, sym, _∙_}
 use mathlib.Core.List.{List}
 use Rattle.replies.specs.declared.Answer.{Answer}
 use Rattle.replies.specs.declared.Opened.{Opened}
-use Rattle.replies.specs.Meaning.{replyOf, openingOf}
+use Rattle.replies.specs.Meaning.{replyIs, openingIs}
 use Rattle.replies.proofs.Apart.{answers-apart, openings-apart}
 use Rattle.schedule.specs.Shown.{endIs}
 use Rattle.schedule.specs.declared.End.{End}
@@ -16,12 +16,12 @@ use Rattle.judge.specs.Ending.{JudgedEndPromise}
 module _ {words : List ℕ} where
   -- Opening has one answer, and leaves one list of words.
   pub opened-determined : {m n : ℕ} {a b : Opened} {after other : List ℕ}
-      → LedgerPromise words m n (openingOf a) after → LedgerPromise words m n (openingOf b) other → (a ≡ b) × (after ≡ other)
+      → LedgerPromise words m n (openingIs a) after → LedgerPromise words m n (openingIs b) other → (a ≡ b) × (after ≡ other)
   opened-determined p q = let same = ledger-determined p q in (openings-apart _ _ (same .0), same .1)
 
   -- A step has one answer, and leaves one list of words.
-  pub answer-determined : {handler code value : ℕ} {a b : Answer} {after other : List ℕ} → JudgedPromise words handler code value (replyOf a) after
-      → JudgedPromise words handler code value (replyOf b) other → (a ≡ b) × (after ≡ other)
+  pub answer-determined : {handler code value : ℕ} {a b : Answer} {after other : List ℕ} → JudgedPromise words handler code value (replyIs a) after
+      → JudgedPromise words handler code value (replyIs b) other → (a ≡ b) × (after ≡ other)
   answer-determined p q = let same = judge-determined p q in (answers-apart _ _ (same .0), same .1)
 
   -- A cell has one end.

@@ -5,10 +5,10 @@ use mathlib.Core.Bool.{_&&_}
 use mathlib.Core.List.{List}
 use mathlib.Core.Option.{Option, none, some}
 use lib.Dec.{ltb}
-use Rattle.rules.specs.Tables.{if_then_else_}
-use Rattle.rules.specs.History.{everyCommit}
-use Rattle.rules.specs.Replay.{replay}
-use Rattle.rules.specs.Judge.{versionCount}
+use Rattle.rules.specs.steps.Tables.{if_then_else_}
+use Rattle.rules.specs.history.History.{everyCommit}
+use Rattle.rules.specs.history.Replay.{replay}
+use Rattle.rules.specs.demand.Judge.{versionCount}
 use Rattle.layout.specs.Places.{cellsOf}
 use Rattle.layout.specs.View.{wordSetting}
 use Rattle.schedule.specs.Shown.{CellLine}

@@ -6,17 +6,17 @@ mod taking;
 ghost use mathlib.Core.Path.{_≡_};
 ghost use Rattle.ledger.specs.Entries.{ledgerLong};
 ghost use Rattle.ledger.specs.Promises.{LedgerPromise, JudgedPromise};
-ghost use Rattle.replies.specs.Meaning.{replyOf, openingOf};
+ghost use Rattle.replies.specs.Meaning.{replyIs, openingIs};
 ghost use Rattle.schedule.specs.Shown.{endIs};
 ghost use Rattle.judge.specs.Ending.{JudgedEndPromise};
 use crate::reading::is_ledger;
 use crate::reading::is_open;
 use crate::taking::pass;
+use checks::Verdict;
 use replies::Answer;
 use replies::Opened;
 use replies::Refusal;
 use schedule::End;
-use steps::Verdict;
 
 // The words that the judge needs, for any numbers of cells and handlers.
 pub fn words_needed() -> usize
@@ -27,7 +27,7 @@ pub fn words_needed() -> usize
 
 // Opens a ledger for m cells and n handlers in front of the words.
 pub fn open(words: &mut [u32], m: u32, n: u32) -> Opened
-    ensures { λ r. ⌜ LedgerPromise (now (words .entry)) m n (openingOf r) (now (words .exit)) ⌝ }
+    ensures { λ r. ⌜ LedgerPromise (now (words .entry)) m n (openingIs r) (now (words .exit)) ⌝ }
 {
     if !formed::in_range(m, n) {
         return Opened::Rejected(Refusal::OutOfRange);
@@ -38,19 +38,19 @@ pub fn open(words: &mut [u32], m: u32, n: u32) -> Opened
     words::clear(words, 2, 5344);
     words[0] = m;
     words[1] = n;
-    Opened::Ready
+    Opened::JudgeReady
 }
 
 // Judges the step of a handler, or refuses it.
 pub fn step(words: &mut [u32], handler: u32, code: u32, value: u32) -> Answer
-    ensures { λ r. ⌜ JudgedPromise (now (words .entry)) handler code value (replyOf r) (now (words .exit)) ⌝ }
+    ensures { λ r. ⌜ JudgedPromise (now (words .entry)) handler code value (replyIs r) (now (words .exit)) ⌝ }
 {
     if !is_ledger(words) {
         return Answer::Refused(Refusal::NotWellFormed);
     }
-    let kind = steps::kind_of(code);
+    let kind = checks::kind_of(code);
     let opened = is_open(words, handler);
-    let verdict = steps::verdict_of(words[0] as usize, words[1], handler, kind, opened);
+    let verdict = checks::verdict_of(words[0] as usize, words[1], handler, kind, opened);
     match verdict {
         Verdict::Refuses(refusal) => Answer::Refused(refusal),
         Verdict::Passes => pass(words, handler, code, kind, value),

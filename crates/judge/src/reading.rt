@@ -2,13 +2,13 @@
 ghost use mathlib.Core.Path.{_≡_};
 ghost use mathlib.Core.Bool.{_&&_};
 ghost use lib.Dec.{leb};
-ghost use Rattle.rules.specs.Codes.{Step, known};
+ghost use Rattle.rules.specs.steps.Codes.{Step, known};
 ghost use Rattle.ledger.specs.Entries.{Ledger, isLedger, commitsNoted, mostCommits};
 ghost use Rattle.ledger.specs.Histories.{historyIn};
 ghost use Rattle.ledger.specs.Promises.{isCommit};
-ghost use Rattle.steps.specs.Meaning.{kindIs};
-ghost use Rattle.judge.specs.Taking.{Ready, answerOf};
-use steps::Kind;
+ghost use Rattle.checks.specs.Meaning.{kindIs};
+ghost use Rattle.judge.specs.Taking.{JudgeReady, answerOf};
+use checks::Kind;
 
 // Whether the words are a ledger.
 pub fn is_ledger(words: &[u32]) -> bool
@@ -37,7 +37,7 @@ pub fn is_open(words: &[u32], handler: u32) -> bool
 
 // Whether a step that no check refuses would be one commit more than are noted.
 pub fn is_too_many(words: &[u32], m: usize, i: usize, kind: Kind) -> bool
-    requires { ⌜ ((s : Step) × (kindIs kind ≡ known s) × Ready (now words) m i s) ⌝ }
+    requires { ⌜ ((s : Step) × (kindIs kind ≡ known s) × JudgeReady (now words) m i s) ⌝ }
     ensures { λ r. ⌜ ((s : Step) → kindIs kind ≡ known s
         → r ≡ (leb mostCommits (commitsNoted (now (words .entry))) && isCommit (answerOf (now (words .entry)) i s))) ⌝ }
 {

@@ -2,7 +2,7 @@
 // printed is that step's, `refused 33`. A refused file prints the one line `refused N`.
 use libc::STDIN_FILENO;
 use replies::Opened;
-use schedule::Judged;
+use schedule::Admitted;
 
 // Each order place, one after another, until the judge stops; whether it came to the end. There are fewer places than the file has
 // bytes.
@@ -45,8 +45,8 @@ fn main() {
     let mut buffer = io::large_buffer();
     let count = io::read_full(STDIN_FILENO, &mut buffer);
     let file = &buffer[..count];
-    match schedule::judge_file(file) {
-        Judged::Sound { handlers, cells } => judge_run(file, handlers, cells),
-        Judged::Rejected(refusal) => lines::print_refused(refusal),
+    match schedule::admit_file(file) {
+        Admitted::Sound { handlers, cells } => judge_run(file, handlers, cells),
+        Admitted::Rejected(refusal) => lines::print_refused(refusal),
     }
 }

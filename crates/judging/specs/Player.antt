@@ -1,5 +1,5 @@
 -- The judge as what answers the steps of a run.
-use Rattle.rules.specs.Codes.{kindOf}
+use Rattle.rules.specs.steps.Codes.{kindOf}
 use Rattle.schedule.specs.Lines.{Player}
 use Rattle.ledger.specs.Noting.{noteWords}
 use Rattle.ledger.specs.Promises.{judgedReply}

@@ -4,8 +4,8 @@ use mathlib.Core.Path.{_≡_}
 use mathlib.Core.Bool.{Bool, false}
 use mathlib.Core.Option.{Option, none, some}
 use lib.Dec.{eqb}
-use Rattle.rules.specs.Tables.{if_then_else_, isFound}
-use Rattle.rules.specs.Replies.{refusalNumber, Reply, reported}
+use Rattle.rules.specs.steps.Tables.{if_then_else_, isFound}
+use Rattle.rules.specs.steps.Replies.{refusalNumber, Reply, reported}
 use Rattle.schedule.specs.Runs.{Line}
 use Rattle.schedule.specs.Shown.{lineIs}
 use Rattle.schedule.specs.declared.Shown.{Shown}

@@ -1,7 +1,7 @@
 // The judged run of a schedule file, one order place after another, and where the judge stops.
 // PUBLIC: nothing here has a `requires`. Each promise fixes the reply and every word of the judge's, for all inputs.
 ghost use mathlib.Core.Path.{_≡_};
-ghost use Rattle.replies.specs.Meaning.{replyOf};
+ghost use Rattle.replies.specs.Meaning.{replyIs};
 ghost use Rattle.schedule.specs.Lines.{PlacePromise};
 ghost use Rattle.schedule.specs.Shown.{lineIs};
 ghost use Rattle.judging.specs.Player.{theJudge};
@@ -53,7 +53,7 @@ pub fn judge_place(file: &[u8], cursors: Cursors, place: usize, words: &mut [u32
 
 // Whether an answer refuses a 65th commit.
 fn is_too_many(answer: Answer) -> bool
-    ensures { λ r. ⌜ r ≡ saysTooMany (replyOf answer) ⌝ }
+    ensures { λ r. ⌜ r ≡ saysTooMany (replyIs answer) ⌝ }
 {
     match answer {
         Answer::Refused(refusal) => replies::refusal_number(refusal) == 33,

@@ -7,9 +7,9 @@ use mathlib.Core.List.{List, [], _∷_, _++_}
 use native.Mathlib.Omega.{arith}
 use lib.ListN.{length, getD, drop, length-append}
 use lib.Seq.{drop-cons, getD-append-add}
-use Rattle.rules.specs.Register.{Cell, Handler}
-use Rattle.rules.proofs.Tables.{SameFrom}
-use Rattle.rules.proofs.Confined.{ConfinedHandler}
+use Rattle.rules.specs.steps.Register.{Cell, Handler}
+use Rattle.rules.proofs.steps.Tables.{SameFrom}
+use Rattle.rules.proofs.steps.Confined.{ConfinedHandler}
 use Rattle.layout.specs.Bits.{hasBit, mask}
 use Rattle.layout.specs.Rows.{row, below}
 use Rattle.layout.specs.Places.{cellLong, handlerLong, valueIn, numberIn, phaseIn, readSetIn, writtenSetIn, handlerNumberIn}

@@ -7,7 +7,7 @@ use native.Mathlib.Omega.{arith}
 use native.Mathlib.Nat.{zero-add}
 use lib.ListN.{length, take, drop, length-append, length-drop}
 use lib.Seq.{drop-drop, drop-at, drop-append-add}
-use Rattle.rules.specs.Register.{Register}
+use Rattle.rules.specs.steps.Register.{Register}
 use Rattle.layout.specs.Rows.{rows}
 use Rattle.layout.specs.Places.{cellLong, handlerLong, bodyLong, size, bodyOf, cellPart, handlerPart}
 use Rattle.layout.specs.View.{pourCell, pourHandler, pour, registerIn}

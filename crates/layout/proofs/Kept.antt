@@ -6,21 +6,21 @@ use mathlib.Core.Bool.{Bool, true}
 use mathlib.Core.List.{List, _++_}
 use native.Mathlib.Omega.{arith}
 use lib.ListN.{length, drop, length-drop}
-use Rattle.rules.specs.Codes.{Step}
-use Rattle.rules.specs.Register.{Cell, Handler, Register, fresh}
-use Rattle.rules.specs.Checks.{inRange}
-use Rattle.rules.specs.Given.{Within}
-use Rattle.rules.specs.Figure.{step}
-use Rattle.rules.specs.Turn.{turn}
-use Rattle.rules.proofs.Bounds.{Fit, BoundedHandler, Bounded, Phased, fresh-phased, step-phased, turn-phased, step-bounded, turn-bounded, fresh-bounded}
-use Rattle.rules.proofs.Confined.{Confined, turn-confined}
+use Rattle.rules.specs.steps.Codes.{Step}
+use Rattle.rules.specs.steps.Register.{Cell, Handler, Register, fresh}
+use Rattle.rules.specs.steps.Checks.{inRange}
+use Rattle.rules.specs.steps.Given.{Within}
+use Rattle.rules.specs.steps.Figure.{step}
+use Rattle.rules.specs.steps.Turn.{turn}
+use Rattle.rules.proofs.steps.Bounds.{Fit, BoundedHandler, Bounded, Phased, fresh-phased, step-phased, turn-phased, step-bounded, turn-bounded, fresh-bounded}
+use Rattle.rules.proofs.steps.Confined.{Confined, turn-confined}
 use Rattle.layout.specs.Places.{cellsOf, handlersOf, bodyLong, size, bodyOf, handlerPart, numberIn, phaseIn}
 use Rattle.layout.specs.View.{wordSetting, viewCell, viewHandler, view, pourCell, pourHandler, pour, viewed, registerIn}
 use Rattle.layout.specs.WellFormed.{GoodBlock, GoodBody, PhasesTo, WellFormed}
 use Rattle.layout.proofs.Bits.{mask-small, no-bit-from}
 use Rattle.layout.proofs.Rows.{below-inside}
 use Rattle.layout.proofs.Places.{handler-fits}
-use Rattle.rules.proofs.Given.{range-tested}
+use Rattle.rules.proofs.steps.Given.{range-tested}
 use Rattle.layout.proofs.Blocks.{HoldsCell, HoldsHandler, poured-cell, poured-handler}
 use Rattle.layout.proofs.Holds.{Holds, pour-holds, register-length}
 use Rattle.layout.proofs.ViewPour.{view-cell, view-handler, view-pour, view-confined}

@@ -6,9 +6,9 @@ use mathlib.Core.List.{List, [], _++_, append-nil}
 use native.Mathlib.Omega.{arith}
 use native.Mathlib.Nat.{zero-add}
 use lib.ListN.{length, take, drop}
-use Rattle.rules.specs.Tables.{put}
-use Rattle.rules.specs.Register.{Cell, Handler, Register, withHandler}
-use Rattle.rules.proofs.Tables.{put-map}
+use Rattle.rules.specs.steps.Tables.{put}
+use Rattle.rules.specs.steps.Register.{Cell, Handler, Register, withHandler}
+use Rattle.rules.proofs.steps.Tables.{put-map}
 use Rattle.layout.specs.Places.{cellLong, handlerLong, bodyLong, cellStart, handlerStart, cellPart, handlerPart}
 use Rattle.layout.specs.View.{pourCell, pourHandler, pour}
 use Rattle.layout.proofs.Places.{handlersStart, cell-ends, cell-fits, handler-fits}

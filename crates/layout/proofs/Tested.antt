@@ -8,8 +8,8 @@ use mathlib.Core.Logic.{_↔_, Iff·rfl}
 use native.Mathlib.Omega.{arith}
 use lib.ListN.{length, List·getD-eq-default}
 use borrow.Author.Tests.{not-true, not-false}
-use Rattle.rules.proofs.Given.{range-tested}
-use Rattle.rules.proofs.Tables.{and-iff, leb-iff, by, some-false, some-none}
+use Rattle.rules.proofs.steps.Given.{range-tested}
+use Rattle.rules.proofs.steps.Tables.{and-iff, leb-iff, by, some-false, some-none}
 use Rattle.layout.specs.WellFormed.{GoodBlock, WellFormed, everyBelow, numbersFit, isGoodBlock, GoodBody, PhasesTo, isGoodBody, isWellFormed}
 use Rattle.layout.proofs.Bits.{no-bit-from}
 

@@ -4,7 +4,7 @@ use Prim.Native.Nat.{ℕ}
 use mathlib.Core.Bool.{false}
 use mathlib.Core.List.{List, _∷_, _++_}
 use lib.ListN.{drop}
-use Rattle.rules.specs.Register.{Setting, Cell, Handler, Register, zeros, idle, blank}
+use Rattle.rules.specs.steps.Register.{Setting, Cell, Handler, Register, zeros, idle, blank}
 use Rattle.layout.specs.Bits.{hasBit, mask}
 use Rattle.layout.specs.Rows.{row, rows, below}
 use Rattle.layout.specs.Places.{cellsOf, handlersOf, bodyLong, bodyOf, cellPart, handlerPart, valueIn, numberIn, phaseIn, readSetIn}

@@ -6,9 +6,9 @@ use mathlib.Core.Bool.{Bool, false, not, _&&_}
 use mathlib.Core.List.{List}
 use lib.ListN.{length}
 use lib.Dec.{leb, ltb}
-use Rattle.rules.specs.Tables.{someBelow}
-use Rattle.rules.specs.Checks.{inRange}
-use Rattle.rules.specs.Given.{InRange}
+use Rattle.rules.specs.steps.Tables.{someBelow}
+use Rattle.rules.specs.steps.Checks.{inRange}
+use Rattle.rules.specs.steps.Given.{InRange}
 use Rattle.layout.specs.Bits.{hasBit}
 use Rattle.layout.specs.Places.{cellsOf, handlersOf, bodyLong, bodyOf, cellPart, handlerPart, numberIn, phaseIn, readSetIn}
 use Rattle.layout.specs.Places.{writtenSetIn, handlerNumberIn, transactionNumberIn}

@@ -8,7 +8,7 @@ use lib.ListN.{length, getD, length-append}
 use lib.Seq.{drop-cons, getD-append-add}
 use lib.Dec.{ltb}
 use borrow.Author.Tests.{ltb-true, ltb-false}
-use Rattle.rules.proofs.Tables.{by}
+use Rattle.rules.proofs.steps.Tables.{by}
 use Rattle.layout.specs.Bits.{hasBit, mask}
 use Rattle.layout.specs.Rows.{row, part, splice}
 use Rattle.layout.proofs.Bits.{has-mask}

@@ -9,21 +9,21 @@ use mathlib.Core.Logic.{_↔_, _⊎_, inl, inr}
 use lib.Dec.{leb}
 use lib.ListN.{length}
 use borrow.Author.Tests.{leb-true}
-use Rattle.rules.specs.Codes.{kindOf}
-use Rattle.rules.specs.Replies.{overtaken, spent, Outcome, committed, aborted, Report, Reply, reported, Opening}
-use Rattle.rules.specs.Replies.{Refusal, notWellFormed, noHandler, noCell, alreadyOpen, notOpen, unknownStep}
-use Rattle.rules.specs.Replies.{outOfRange, tooShort, badFile, usedUp, tooManyCommits}
-use Rattle.rules.specs.Checks.{Asked}
-use Rattle.rules.specs.Given.{OpeningGiven}
-use Rattle.rules.specs.Demand.{reportedTo}
-use Rattle.rules.specs.Judge.{askedByHistory}
-use Rattle.rules.proofs.Tables.{by, and-left, and-right, both-ways}
-use Rattle.rules.proofs.Given.{Verdict, verdict}
-use Rattle.rules.proofs.Turns.{refused-exactly}
-use Rattle.rules.proofs.Judged.{judged-refused, judged-free}
-use Rattle.rules.proofs.Properties.{ok-no-abort}
-use Rattle.rules.proofs.ExactAborts.{outcomeIn}
-use Rattle.rules.proofs.NeverSpent.{never-spent}
+use Rattle.rules.specs.steps.Codes.{kindOf}
+use Rattle.rules.specs.steps.Replies.{overtaken, spent, Outcome, committed, aborted, Report, Reply, reported, Opening}
+use Rattle.rules.specs.steps.Replies.{Refusal, notWellFormed, noHandler, noCell, alreadyOpen, notOpen, unknownStep}
+use Rattle.rules.specs.steps.Replies.{outOfRange, tooShort, badFile, usedUp, tooManyCommits}
+use Rattle.rules.specs.steps.Checks.{Asked}
+use Rattle.rules.specs.steps.Given.{OpeningGiven}
+use Rattle.rules.specs.demand.Demand.{reportedTo}
+use Rattle.rules.specs.demand.Judge.{askedByHistory}
+use Rattle.rules.proofs.steps.Tables.{by, and-left, and-right, both-ways}
+use Rattle.rules.proofs.steps.Given.{Verdict, verdict}
+use Rattle.rules.proofs.steps.Turns.{refused-exactly}
+use Rattle.rules.proofs.demand.Judged.{judged-refused, judged-free}
+use Rattle.rules.proofs.steps.Properties.{ok-no-abort}
+use Rattle.rules.proofs.demand.ExactAborts.{outcomeIn}
+use Rattle.rules.proofs.demand.NeverSpent.{never-spent}
 use Rattle.layout.specs.Places.{cellsOf, handlersOf}
 use Rattle.layout.specs.View.{wordSetting}
 use Rattle.promises.proofs.Exactly.{opening-said, opening-given}

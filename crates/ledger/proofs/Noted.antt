@@ -5,14 +5,14 @@ use mathlib.Core.Bool.{Bool, true, false, _||_, or-true}
 use mathlib.Core.List.{_∷_}
 use lib.Dec.{eqb}
 use borrow.Author.Tests.{lt-ltb, eqb-true, eqb-false}
-use Rattle.rules.specs.Tables.{put, someBelow}
-use Rattle.rules.specs.Register.{Setting}
-use Rattle.rules.specs.History.{look, set, someLook, hasWritten}
-use Rattle.rules.specs.Replay.{after}
-use Rattle.rules.specs.Judge.{copied}
-use Rattle.rules.proofs.Tables.{by, put-here, put-other}
-use Rattle.rules.proofs.Searches.{some-more}
-use Rattle.rules.proofs.Alike.{SameDeeds}
+use Rattle.rules.specs.steps.Tables.{put, someBelow}
+use Rattle.rules.specs.steps.Register.{Setting}
+use Rattle.rules.specs.history.History.{look, set, someLook, hasWritten}
+use Rattle.rules.specs.history.Replay.{after}
+use Rattle.rules.specs.demand.Judge.{copied}
+use Rattle.rules.proofs.steps.Tables.{by, put-here, put-other}
+use Rattle.rules.proofs.steps.Searches.{some-more}
+use Rattle.rules.proofs.history.Alike.{SameDeeds}
 use Rattle.ledger.specs.Entries.{Entry}
 use Rattle.ledger.specs.Histories.{deedsOf}
 use Rattle.ledger.specs.Noting.{readEntry, writtenEntry}

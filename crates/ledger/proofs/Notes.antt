@@ -7,15 +7,15 @@ use mathlib.Core.Bool.{Bool, false}
 use mathlib.Core.List.{List, [], _∷_}
 use lib.ListN.{length, getD, set, length-set}
 use lib.Seq.{getD-set-same, getD-set-other}
-use Rattle.rules.specs.Given.{InRange}
-use Rattle.rules.specs.History.{Deed, Abort, transaction}
-use Rattle.rules.proofs.Alike.{SameDeeds, SameCommits, more, SameHistory}
+use Rattle.rules.specs.steps.Given.{InRange}
+use Rattle.rules.specs.history.History.{Deed, Abort, transaction}
+use Rattle.rules.proofs.history.Alike.{SameDeeds, SameCommits, more, SameHistory}
 use Rattle.layout.specs.Places.{cellsOf, handlersOf}
 use Rattle.layout.specs.View.{wordSetting}
 use Rattle.layout.proofs.Rows.{below-inside}
 use Rattle.ledger.specs.Entries.{Ledger, Entry, entryIn, withEntry, commitsNoted, mostCommits, handlerRow, commitRow}
 use Rattle.ledger.specs.Histories.{deedsOf, commitsIn, isOpen, historyIn}
-use Rattle.ledger.specs.Noting.{emptyEntry, committedEntry, noteCommit}
+use Rattle.ledger.specs.Noting.{emptyEntry, committedEntry, noteCommitRow}
 use Rattle.ledger.proofs.Entries.{SameEntry, entry-kept, with-untouched, with-here, with-other}
 use Rattle.ledger.proofs.Histories.{empty-deeds, committed-deeds, deeds-of-same, commits-kept, same-deeds, same-commits}
 use Rattle.ledger.proofs.Histories.{changed, Changes, history-changed}
@@ -141,30 +141,30 @@ module _ {words : List ℕ} (ledger : Ledger words) {i : ℕ} (seat : i < handle
   cleared-ledger = with-ledger noted-ledger (handlerRow i) (emptyEntry 0) (omega arith) (omega (arith, seated ledger seat))
 
   -- The number of commits changes no row,
-  row-counted : (row : ℕ) → 1 ≤ row → SameEntry (entryIn (noteCommit words i) row) (entryIn cleared row)
-  unfolding noteCommit
+  row-counted : (row : ℕ) → 1 ≤ row → SameEntry (entryIn (noteCommitRow words i) row) (entryIn cleared row)
+  unfolding noteCommitRow
   row-counted row low = entry-kept cleared (set cleared 2 _) row (λ y l. getD-set-other cleared 2 (row * 66 + y) _ 0 (omega arith))
 
   -- and is one more.
-  pub commit-counted : commitsNoted (noteCommit words i) ≡ place
-  unfolding noteCommit
+  pub commit-counted : commitsNoted (noteCommitRow words i) ≡ place
+  unfolding noteCommitRow
   commit-counted = getD-set-same cleared 2 place 0 (omega (arith, cleared-ledger .long))
 
   -- Of the head only the number of commits changes.
-  head-counted : (k : ℕ) → k < 66 → (k ≡ 2 → ⊥) → getD (noteCommit words i) k 0 ≡ getD words k 0
-  unfolding noteCommit
+  head-counted : (k : ℕ) → k < 66 → (k ≡ 2 → ⊥) → getD (noteCommitRow words i) k 0 ≡ getD words k 0
+  unfolding noteCommitRow
   head-counted k l apart =
       getD-set-other cleared 2 k place 0 apart
       ∙ head-kept noted-ledger (handlerRow i) (emptyEntry 0) (omega arith) (omega (arith, seated ledger seat)) k l
       ∙ head-kept ledger (commitRow place) new (omega arith) (omega arith) k l
 
   -- There are as many words.
-  counted-length : length (noteCommit words i) ≡ length cleared
-  unfolding noteCommit
+  counted-length : length (noteCommitRow words i) ≡ length cleared
+  unfolding noteCommitRow
   counted-length = length-set cleared 2 place
 
   -- The words are a ledger of the same m and n.
-  pub commit-keeps : Keeps words (noteCommit words i)
+  pub commit-keeps : Keeps words (noteCommitRow words i)
   commit-keeps = record {
     ledger = record {
       long = omega (arith, cleared-ledger .long, counted-length);
@@ -176,45 +176,45 @@ module _ {words : List ℕ} (ledger : Ledger words) {i : ℕ} (seat : i < handle
   }
 
   -- Another row than the handler's is as the new commit's entry leaves it.
-  row-noted : (row : ℕ) → 1 ≤ row → (row ≡ handlerRow i → ⊥) → SameEntry (entryIn (noteCommit words i) row) (entryIn noted row)
+  row-noted : (row : ℕ) → 1 ≤ row → (row ≡ handlerRow i → ⊥) → SameEntry (entryIn (noteCommitRow words i) row) (entryIn noted row)
   row-noted row low apart = entries-trans (row-counted row low)
       (with-other noted (handlerRow i) (emptyEntry 0)
       (row-fits noted-ledger (handlerRow i) (emptyEntry 0) (omega arith) (omega (arith, seated ledger seat))) row apart)
 
   -- A row other than these two is as it was.
   row-kept : (row : ℕ) → 1 ≤ row → (row ≡ handlerRow i → ⊥) → (row ≡ commitRow place → ⊥)
-      → SameEntry (entryIn (noteCommit words i) row) (entryIn words row)
+      → SameEntry (entryIn (noteCommitRow words i) row) (entryIn words row)
   row-kept row low apart away = entries-trans (row-noted row low apart)
       (with-other words (commitRow place) new (row-fits ledger (commitRow place) new (omega arith) (omega arith)) row away)
 
   -- The commits are those before and the new one.
   commits-noted : SameCommits (wordSetting (cellsOf words)) (transaction (historyIn words) i ∷ historyIn words .commits)
-      (commitsIn (cellsOf words) (noteCommit words i) place)
+      (commitsIn (cellsOf words) (noteCommitRow words i) place)
   unfolding commitsIn historyIn committedEntry
   commits-noted = more (sym (here .head)) (same-deeds deeds) (same-commits (sym kept))
     where
-      here : SameEntry (entryIn (noteCommit words i) (commitRow place)) new
+      here : SameEntry (entryIn (noteCommitRow words i) (commitRow place)) new
       here = entries-trans (row-noted (commitRow place) (omega arith) (omega (arith, seated ledger seat)))
           (with-here words (commitRow place) new (row-fits ledger (commitRow place) new (omega arith) (omega arith)))
 
-      deeds : historyIn words .now i ≡ deedsOf (entryIn (noteCommit words i) (commitRow place)) (cellsOf words)
+      deeds : historyIn words .now i ≡ deedsOf (entryIn (noteCommitRow words i) (commitRow place)) (cellsOf words)
       deeds = now-is ledger seat ∙ sym (deeds-of-same (cellsOf words) (ledger .range .cells) here
           ∙ committed-deeds i (entryIn words (handlerRow i)) (cellsOf words))
 
-      kept : commitsIn (cellsOf words) (noteCommit words i) (commitsNoted words) ≡ commitsIn (cellsOf words) words (commitsNoted words)
-      kept = commits-kept (cellsOf words) words (noteCommit words i) (commitsNoted words) (ledger .range .cells)
+      kept : commitsIn (cellsOf words) (noteCommitRow words i) (commitsNoted words) ≡ commitsIn (cellsOf words) words (commitsNoted words)
+      kept = commits-kept (cellsOf words) words (noteCommitRow words i) (commitsNoted words) (ledger .range .cells)
           (λ k low l. row-kept (commitRow k) (omega arith) (omega (arith, seated ledger seat)) (omega arith))
 
   -- A commit is noted as one more.
   pub commit-noted : (aborts : List (Abort ℕ))
       → SameHistory (wordSetting (cellsOf words))
       (changed (historyIn words) i false [] (transaction (historyIn words) i ∷ historyIn words .commits) aborts)
-      (historyIn (noteCommit words i))
+      (historyIn (noteCommitRow words i))
   unfolding emptyEntry
   commit-noted aborts =
       history-changed ledger seat changes aborts refl (same-deeds (sym (empty-deeds 0 (cellsOf words)))) commits-noted
     where
-      changes : Changes words i (emptyEntry 0) place (noteCommit words i)
+      changes : Changes words i (emptyEntry 0) place (noteCommitRow words i)
       changes = record {
         cells = head-counted 0 (omega arith) (omega arith);
         handlers = head-counted 1 (omega arith) (omega arith);

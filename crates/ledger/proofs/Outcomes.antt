@@ -4,17 +4,17 @@ use native.Mathlib.Omega.{arith}
 use mathlib.Core.Path.{_≡_, refl, sym, ap, _∙_, subst}
 use mathlib.Core.Bool.{true, false, _||_}
 use mathlib.Core.List.{List, [], _∷_}
-use Rattle.rules.specs.Codes.{Step, begin, try, read, write}
-use Rattle.rules.specs.Replies.{Outcome, ok, value, committed, aborted}
-use Rattle.rules.specs.Register.{Setting}
-use Rattle.rules.specs.Given.{Within, phaseFor}
-use Rattle.rules.specs.History.{Deed, look, again, set, History, someLook, hasRead, hasWritten, writer, doing, readDeed}
-use Rattle.rules.specs.History.{note, noteOk, noteValue, ended}
-use Rattle.rules.specs.History as Rules
-use Rattle.rules.specs.Replay.{after}
-use Rattle.rules.specs.Judge.{copied}
-use Rattle.rules.proofs.Tables.{by, both-ways, put-each, put-same, or-left, or-right}
-use Rattle.rules.proofs.Alike.{SameDeeds, SameHistory, deeds-refl, commits-refl, history-refl}
+use Rattle.rules.specs.steps.Codes.{Step, begin, try, read, write}
+use Rattle.rules.specs.steps.Replies.{Outcome, ok, value, committed, aborted}
+use Rattle.rules.specs.steps.Register.{Setting}
+use Rattle.rules.specs.steps.Given.{Within, phaseFor}
+use Rattle.rules.specs.history.History.{Deed, look, again, set, History, someLook, hasRead, hasWritten, writer, doing, readDeed}
+use Rattle.rules.specs.history.History.{note, noteOk, noteValue, ended}
+use Rattle.rules.specs.history.History as Rules
+use Rattle.rules.specs.history.Replay.{after}
+use Rattle.rules.specs.demand.Judge.{copied}
+use Rattle.rules.proofs.steps.Tables.{by, both-ways, put-each, put-same, or-left, or-right}
+use Rattle.rules.proofs.history.Alike.{SameDeeds, SameHistory, deeds-refl, commits-refl, history-refl}
 use Rattle.layout.specs.Places.{cellsOf, handlersOf}
 use Rattle.layout.specs.View.{wordSetting}
 use Rattle.ledger.specs.Entries.{Ledger, Entry, entryIn, withEntry, commitsNoted, mostCommits, handlerRow}
@@ -115,7 +115,7 @@ module _ {words : List ℕ} (ledger : Ledger words) {i : ℕ} (seat : i < handle
   pub outcome-noted : (s : Step) (v : ℕ) (outcome : Outcome ℕ) → Within (cellsOf words) s → h .opened i ≡ phaseFor s
       → (isCommit outcome ≡ true → commitsNoted words < mostCommits)
       → SameHistory S (note h i s v outcome) (historyIn (noteOutcome words i s v outcome))
-  unfolding note noteOk noteValue noteOutcome Rules.noteCommit ended
+  unfolding note noteOk noteValue noteOutcome Rules.noteCommitRow ended
   outcome-noted begin v ok inside phase room = begin-noted
   outcome-noted (write x) v ok inside phase room = write-is-noted phase x v inside
   outcome-noted (read x) v ok inside phase room = history-refl

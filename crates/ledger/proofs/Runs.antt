@@ -3,12 +3,12 @@ use Prim.Native.Nat.{ℕ}
 use mathlib.Core.Path.{_≡_, sym, ap, ap₂, _∙_, subst, subst₂}
 use mathlib.Core.List.{List}
 use lib.ListN.{length}
-use Rattle.rules.specs.Codes.{kindOf}
-use Rattle.rules.specs.History.{History, noteReply}
-use Rattle.rules.specs.Demand.{Ask}
-use Rattle.rules.specs.Judge.{judgement}
-use Rattle.rules.proofs.Alike.{SameHistory, history-trans, length-same, judgement-same}
-use Rattle.rules.proofs.AlikeNotes.{note-same}
+use Rattle.rules.specs.steps.Codes.{kindOf}
+use Rattle.rules.specs.history.History.{History, noteReply}
+use Rattle.rules.specs.demand.Demand.{Ask}
+use Rattle.rules.specs.demand.Judge.{judgement}
+use Rattle.rules.proofs.history.Alike.{SameHistory, history-trans, length-same, judgement-same}
+use Rattle.rules.proofs.history.AlikeNotes.{note-same}
 use Rattle.layout.specs.Places.{cellsOf, handlersOf}
 use Rattle.layout.specs.View.{wordSetting}
 use Rattle.ledger.specs.Entries.{commitsNoted}

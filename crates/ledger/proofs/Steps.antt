@@ -5,19 +5,19 @@ use mathlib.Core.Bool.{Bool, true, false, _&&_, and-false}
 use mathlib.Core.List.{List}
 use lib.Dec.{leb}
 use borrow.Author.Tests.{leb-false}
-use Rattle.rules.specs.Codes.{Step, Kind, known, unknown, kindOf}
-use Rattle.rules.specs.Replies.{Outcome, Refusal, tooManyCommits, Reply}
-use Rattle.rules.specs.Register.{Setting}
-use Rattle.rules.specs.Checks.{firstHit, stepChecks}
-use Rattle.rules.specs.Given.{Free}
-use Rattle.rules.specs.History.{History, noteReply}
-use Rattle.rules.specs.Demand.{reportedTo}
-use Rattle.rules.specs.Judge.{answer, askedByHistory, orAnswered, judgement}
-use Rattle.rules.proofs.Tables.{by, both-ways, found, and-both}
-use Rattle.rules.proofs.Given.{free-exactly}
-use Rattle.rules.proofs.Judged.{judged-free}
-use Rattle.rules.proofs.Alike.{SameHistory, history-refl}
-use Rattle.rules.proofs.ThirdDemand.{note-refused}
+use Rattle.rules.specs.steps.Codes.{Step, Kind, known, unknown, kindOf}
+use Rattle.rules.specs.steps.Replies.{Outcome, Refusal, tooManyCommits, Reply}
+use Rattle.rules.specs.steps.Register.{Setting}
+use Rattle.rules.specs.steps.Checks.{firstHit, stepChecks}
+use Rattle.rules.specs.steps.Given.{Free}
+use Rattle.rules.specs.history.History.{History, noteReply}
+use Rattle.rules.specs.demand.Demand.{reportedTo}
+use Rattle.rules.specs.demand.Judge.{answer, askedByHistory, orAnswered, judgement}
+use Rattle.rules.proofs.steps.Tables.{by, both-ways, found, and-both}
+use Rattle.rules.proofs.steps.Given.{free-exactly}
+use Rattle.rules.proofs.demand.Judged.{judged-free}
+use Rattle.rules.proofs.history.Alike.{SameHistory, history-refl}
+use Rattle.rules.proofs.demand.ThirdDemand.{note-refused}
 use Rattle.layout.specs.Places.{cellsOf, handlersOf}
 use Rattle.layout.specs.View.{wordSetting}
 use Rattle.ledger.specs.Entries.{Ledger, commitsNoted, mostCommits}

@@ -2,7 +2,7 @@
 use Prim.Native.Nat.{ℕ}
 use mathlib.Core.Path.{_≡_, sym, _∙_}
 use mathlib.Core.List.{List}
-use Rattle.rules.specs.Replies.{Reply, Opening}
+use Rattle.rules.specs.steps.Replies.{Reply, Opening}
 use Rattle.ledger.specs.Promises.{LedgerPromise, JudgedPromise}
 
 module _ {words : List ℕ} where

@@ -5,8 +5,8 @@ use mathlib.Core.Bool.{Bool, _&&_}
 use mathlib.Core.List.{List, _∷_, _++_}
 use lib.ListN.{length, getD}
 use lib.Dec.{leb}
-use Rattle.rules.specs.Checks.{inRange}
-use Rattle.rules.specs.Given.{InRange}
+use Rattle.rules.specs.steps.Checks.{inRange}
+use Rattle.rules.specs.steps.Given.{InRange}
 use Rattle.layout.specs.Bits.{hasBit, mask}
 use Rattle.layout.specs.Rows.{row, splice}
 use Rattle.layout.specs.Places.{cellsOf, handlersOf}

@@ -3,11 +3,11 @@
 use Prim.Native.Nat.{ℕ}
 use mathlib.Core.Path.{_≡_}
 use mathlib.Core.List.{List}
-use Rattle.rules.specs.Replies.{committed, Refusal, notWellFormed, noHandler, noCell, alreadyOpen, notOpen, unknownStep, Reply}
-use Rattle.rules.specs.Replies.{outOfRange, tooShort, badFile, usedUp, tooManyCommits}
-use Rattle.rules.specs.Given.{Given}
-use Rattle.rules.specs.Demand.{reportedTo}
-use Rattle.rules.specs.Judge.{askedByHistory, judgement}
+use Rattle.rules.specs.steps.Replies.{committed, Refusal, notWellFormed, noHandler, noCell, alreadyOpen, notOpen, unknownStep, Reply}
+use Rattle.rules.specs.steps.Replies.{outOfRange, tooShort, badFile, usedUp, tooManyCommits}
+use Rattle.rules.specs.steps.Given.{Given}
+use Rattle.rules.specs.demand.Demand.{reportedTo}
+use Rattle.rules.specs.demand.Judge.{askedByHistory, judgement}
 use Rattle.layout.specs.Places.{cellsOf, handlersOf}
 use Rattle.layout.specs.View.{wordSetting}
 use Rattle.ledger.specs.Entries.{mostCommits, commitsNoted, Ledger}

@@ -7,12 +7,12 @@ use mathlib.Core.List.{List, _∷_, _++_}
 use mathlib.Core.Option.{Option, none, some}
 use lib.ListN.{length, drop}
 use lib.Dec.{leb}
-use Rattle.rules.specs.Tables.{if_then_else_}
-use Rattle.rules.specs.Codes.{kindOf}
-use Rattle.rules.specs.Replies.{ok, value, committed, aborted, Outcome, Refusal, notWellFormed, tooManyCommits, Reply, reported, Opening}
-use Rattle.rules.specs.Register.{zeros}
-use Rattle.rules.specs.Checks.{firstHit, openingChecks}
-use Rattle.rules.specs.Judge.{judgement}
+use Rattle.rules.specs.steps.Tables.{if_then_else_}
+use Rattle.rules.specs.steps.Codes.{kindOf}
+use Rattle.rules.specs.steps.Replies.{ok, value, committed, aborted, Outcome, Refusal, notWellFormed, tooManyCommits, Reply, reported, Opening}
+use Rattle.rules.specs.steps.Register.{zeros}
+use Rattle.rules.specs.steps.Checks.{firstHit, openingChecks}
+use Rattle.rules.specs.demand.Judge.{judgement}
 use Rattle.layout.specs.Rows.{row}
 use Rattle.layout.specs.Places.{cellsOf, handlersOf}
 use Rattle.layout.specs.View.{wordSetting}

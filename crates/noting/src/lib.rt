@@ -5,7 +5,7 @@ ghost use Prim.Native.Nat.{_+_, _*_, _^_, _≤_, _<_};
 ghost use lib.ListN.{length, getD};
 ghost use Rattle.layout.specs.Places.{handlersOf};
 ghost use Rattle.ledger.specs.Entries.{ledgerLong, Ledger, commitsNoted, entryIn, withEntry};
-ghost use Rattle.ledger.specs.Noting.{emptyEntry, readEntry, writtenEntry, committedEntry, noteCommit};
+ghost use Rattle.ledger.specs.Noting.{emptyEntry, readEntry, writtenEntry, committedEntry, noteCommitRow};
 
 // Leaves nothing in a row but its head.
 pub fn empty_row(words: &mut [u32], row: usize, head: u32)
@@ -47,7 +47,7 @@ fn copy_row(words: &mut [u32], i: usize, place: usize)
 // Notes a commit of handler i.
 pub fn note_commit(words: &mut [u32], i: usize)
     requires { ⌜ Ledger (now words) × (i < handlersOf (now words)) × (commitsNoted (now words) < 64) ⌝ }
-    ensures { λ _. ⌜ now (words .exit) ≡ noteCommit (now (words .entry)) i ⌝ }
+    ensures { λ _. ⌜ now (words .exit) ≡ noteCommitRow (now (words .entry)) i ⌝ }
 {
     let place = words[2] as usize + 1;
     copy_row(words, i, place);

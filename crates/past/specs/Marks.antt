@@ -5,8 +5,8 @@ use mathlib.Core.Path.{_≡_}
 use mathlib.Core.Bool.{Bool, true, false, _||_}
 use mathlib.Core.List.{List}
 use lib.Dec.{eqb, leb}
-use Rattle.rules.specs.Tables.{if_then_else_}
-use Rattle.rules.specs.Past.{inPast, upTo}
+use Rattle.rules.specs.steps.Tables.{if_then_else_}
+use Rattle.rules.specs.history.Past.{inPast, upTo}
 use Rattle.layout.specs.Bits.{hasBit}
 use Rattle.ledger.specs.Entries.{Entry}
 use Rattle.ledger.specs.Histories.{deedsOf, commitsIn}

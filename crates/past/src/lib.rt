@@ -3,7 +3,7 @@
 ghost use mathlib.Core.Path.{_≡_};
 ghost use Prim.Native.Nat.{ℕ, _≤_, _<_};
 ghost use lib.ListN.{length};
-ghost use Rattle.rules.proofs.Pasts.{lastOf};
+ghost use Rattle.rules.proofs.history.Pasts.{lastOf};
 ghost use Rattle.ledger.specs.Entries.{ledgerLong, mostCommits, entryIn};
 ghost use Rattle.ledger.specs.Histories.{commitsIn};
 ghost use Rattle.past.specs.Marks.{pastOfTransaction, pastOfVersion, sourcePlace, marked, only, Adds, Closed};

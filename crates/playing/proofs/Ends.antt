@@ -11,7 +11,7 @@ use borrow.Author.Tests.{lt-ltb, le-ltb}
 use Rattle.layout.specs.Places.{cellsOf, handlersOf, bodyOf, cellStart}
 use Rattle.layout.specs.View.{viewed}
 use Rattle.layout.specs.WellFormed.{isWellFormed}
-use Rattle.turns.proofs.Said.{value-said, number-said}
+use Rattle.steps.proofs.Said.{value-said, number-said}
 use Rattle.playing.specs.Ending.{endOf, EndPromise}
 
 module _ (words : List ℕ) (c : ℕ) where

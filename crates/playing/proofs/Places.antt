@@ -9,12 +9,12 @@ use lib.Dec.{eqb, leb}
 use lib.ListN.{length, drop, set, length-set}
 use lib.Seq.{drop-drop, getD-set-same, getD-set-other}
 use borrow.Author.Tests.{leb-false, lt-leb, le-ltb, eqb-true, eqb-false}
-use Rattle.rules.specs.Tables.{put}
-use Rattle.rules.specs.Codes.{kindOf}
-use Rattle.rules.specs.Register.{Register}
-use Rattle.rules.specs.Checks.{firstHit}
-use Rattle.rules.specs.Turn.{turn}
-use Rattle.rules.proofs.Tables.{by, put-here, put-other}
+use Rattle.rules.specs.steps.Tables.{put}
+use Rattle.rules.specs.steps.Codes.{kindOf}
+use Rattle.rules.specs.steps.Register.{Register}
+use Rattle.rules.specs.steps.Checks.{firstHit}
+use Rattle.rules.specs.steps.Turn.{turn}
+use Rattle.rules.proofs.steps.Tables.{by, put-here, put-other}
 use Rattle.layout.specs.Places.{cellsOf, handlersOf, bodyOf}
 use Rattle.layout.specs.View.{wordSetting, view}
 use Rattle.layout.specs.WellFormed.{WellFormed}
@@ -25,7 +25,7 @@ use Rattle.promises.proofs.Leaves.{step-keeps, step-says}
 use Rattle.schedule.specs.Sound.{handlersIn, cellsIn, scriptIn}
 use Rattle.schedule.specs.Scripts.{ScriptStep, valueLong, firstStep, stepsBehind, stepsOf}
 use Rattle.schedule.specs.Taking.{Cursors, cursorOf, taken, leftOf, isSpoilt, leftChecks, placeChecks, answered, namedNext, cursorsAfter}
-use Rattle.schedule.specs.Runs.{Standing, stepLine, stepped, ordered}
+use Rattle.schedule.specs.Runs.{RunState, stepLine, stepped, ordered}
 use Rattle.schedule.specs.Lines.{theRegister, lineFor, wordsFor}
 use Rattle.playing.proofs.Scripts.{InFront, in-front}
 
@@ -41,7 +41,7 @@ abbrev pub Leaving : List ℕ → Cursors → (ℕ → List ScriptStep) → Type
 Leaving file cursors left = (handler : ℕ) → handler < handlersIn file → stepsOf (leftOf file cursors handler) ≡ some (left handler)
 
 -- Cursors and words stand where the run stands.
-pub record Along (file : List ℕ) (cursors : Cursors) (words : List ℕ) (s : Standing) : Type 0 where
+pub record Along (file : List ℕ) (cursors : Cursors) (words : List ℕ) (s : RunState) : Type 0 where
   pub held : Holding file words (s .register)
   pub room : handlersIn file ≤ length cursors
   pub leaving : Leaving file cursors (s .left)
@@ -79,12 +79,12 @@ module _ {file words : List ℕ} {register : Register ℕ} (held : Holding file 
           (subst (λ n. view (cellsOf words) n (bodyOf after) ≡ turnOf words handler code value .after) (held .handlerCount) (step-says promise))
 
 -- What a place comes to in both: the same line, and both stand on alike.
-pub record OnePlace (file : List ℕ) (cursors : Cursors) (words : List ℕ) (s : Standing) (place handler : ℕ) : Type 0 where
+pub record OnePlace (file : List ℕ) (cursors : Cursors) (words : List ℕ) (s : RunState) (place handler : ℕ) : Type 0 where
   pub shown : lineFor theRegister words place (namedNext file cursors handler) ≡ some (ordered (cellsIn file) (handlersIn file) s place handler .line)
   pub along : Along file (cursorsAfter cursors (namedNext file cursors handler)) (wordsFor theRegister words (namedNext file cursors handler))
       (ordered (cellsIn file) (handlersIn file) s place handler .after)
 
-module _ {file : List ℕ} {cursors : Cursors} {words : List ℕ} {s : Standing} (along : Along file cursors words s) (place handler : ℕ) where
+module _ {file : List ℕ} {cursors : Cursors} {words : List ℕ} {s : RunState} (along : Along file cursors words s) (place handler : ℕ) where
   -- Handler n or above: 11 in both.
   no-handler : leb (handlersIn file) handler ≡ true → OnePlace file cursors words s place handler
   unfolding namedNext answered placeChecks firstHit ordered lineFor wordsFor cursorsAfter

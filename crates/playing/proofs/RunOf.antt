@@ -8,8 +8,8 @@ use native.Mathlib.Omega.{arith}
 use lib.ListN.{length, getD-replicate, drop, getD, length-drop}
 use lib.Seq.{drop-cons}
 use borrow.Author.Tests.{lt-leb}
-use Rattle.rules.specs.Tables.{isFound}
-use Rattle.rules.specs.Replies.{Refusal, ready}
+use Rattle.rules.specs.steps.Tables.{isFound}
+use Rattle.rules.specs.steps.Replies.{Refusal, ready}
 use Rattle.layout.specs.Places.{bodyOf}
 use Rattle.layout.specs.View.{view}
 use Rattle.promises.specs.Opening.{OpeningPromise}
@@ -17,11 +17,11 @@ use Rattle.promises.proofs.Leaves.{opening-ready}
 use Rattle.schedule.specs.Bytes.{byteAt}
 use Rattle.schedule.specs.Sound.{handlersIn, cellsIn, scriptIn, orderIn, isSoundFile}
 use Rattle.schedule.specs.Scripts.{ScriptStep, stepsOf}
-use Rattle.schedule.specs.Judging.{fileRefusal, judged, judgementOf, GoodFile}
+use Rattle.schedule.specs.Admitting.{fileRefusal, judged, admissionOf, GoodFile}
 use Rattle.schedule.proofs.Sounds.{file-tested}
-use Rattle.schedule.proofs.Judges.{good-exactly}
+use Rattle.schedule.proofs.Admits.{good-exactly}
 use Rattle.schedule.specs.Taking.{Cursors, cursorOf, atStart, Next, nextOf, namedNext, cursorsAfter}
-use Rattle.schedule.specs.Runs.{ordered, Standing, Run, stepsFound, runFrom, started, Played, ran, playedBy, runOf}
+use Rattle.schedule.specs.Runs.{ordered, RunState, Run, stepsFound, runFrom, started, Played, ran, playedBy, runOf}
 use Rattle.schedule.specs.Lines.{theRegister, lineFor, wordsFor, placesFrom, inFront}
 use Rattle.playing.proofs.Places.{Along, one-place}
 
@@ -68,7 +68,7 @@ module _ (file : List ℕ) (sound : isSoundFile file ≡ true) where
       rw (sound, lt-leb (length (orderIn file)) place (at .within)) (ap (namedNext file cursors) (at .named))
 
   -- From any place on.
-  pub places-run : (rest : List ℕ) (place : ℕ) (cursors : Cursors) (words : List ℕ) (s : Standing)
+  pub places-run : (rest : List ℕ) (place : ℕ) (cursors : Cursors) (words : List ℕ) (s : RunState)
       → rest ≡ drop place (orderIn file) → Along file cursors words s
       → shownFrom file (length rest) cursors place words ≡ runFrom (cellsIn file) (handlersIn file) s place rest
   unfolding placesFrom runFrom
@@ -90,7 +90,7 @@ whole-steps (some steps) e = refl
 pub run-of-places : (file : List ℕ) {before words : List ℕ} → fileRefusal file ≡ none
     → OpeningPromise before (cellsIn file) (handlersIn file) ready words
     → runOf file ≡ ran (handlersIn file) (cellsIn file) (shownFrom file (length (orderIn file)) atStart 0 words)
-unfolding runOf judgementOf judged playedBy started
+unfolding runOf admissionOf judged playedBy started
 run-of-places file {words = words} free opening =
     let run = places-run file (file-tested file .1 (good .sound)) (orderIn file) 0 atStart words (started file (cellsIn file)) refl along in
     rw free (ap (ran (handlersIn file) (cellsIn file)) (sym run))
@@ -114,5 +114,5 @@ run-of-places file {words = words} free opening =
 
 -- A file that is refused runs nothing.
 pub refused-run : (file : List ℕ) {refusal : Refusal} → fileRefusal file ≡ some refusal → runOf file ≡ Played.refused refusal
-unfolding runOf judgementOf judged playedBy
+unfolding runOf admissionOf judged playedBy
 refused-run file e = rw e

@@ -6,9 +6,9 @@ use mathlib.Core.List.{List, [], _∷_}
 use mathlib.Core.Option.{Option, none, some, Option·some-injective, Option·some-ne-none}
 use native.Mathlib.Omega.{arith}
 use lib.ListN.{length, drop}
-use Rattle.rules.specs.Codes.{kindOf}
-use Rattle.rules.specs.Checks.{isUnknown}
-use Rattle.rules.proofs.Tables.{by}
+use Rattle.rules.specs.steps.Codes.{kindOf}
+use Rattle.rules.specs.steps.Checks.{isUnknown}
+use Rattle.rules.proofs.steps.Tables.{by}
 use Rattle.schedule.specs.Scripts.{ScriptStep, valueLong, firstStep, before, stepsBehind, stepsOf}
 
 -- The steps behind bytes of value: these bytes are there, and the steps are those of what follows.

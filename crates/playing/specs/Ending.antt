@@ -5,7 +5,7 @@ use mathlib.Core.Bool.{_&&_}
 use mathlib.Core.List.{List}
 use mathlib.Core.Option.{Option, none, some}
 use lib.Dec.{ltb}
-use Rattle.rules.specs.Tables.{if_then_else_}
+use Rattle.rules.specs.steps.Tables.{if_then_else_}
 use Rattle.layout.specs.Places.{cellsOf}
 use Rattle.layout.specs.View.{viewed}
 use Rattle.layout.specs.WellFormed.{isWellFormed}

@@ -6,11 +6,11 @@ use mathlib.Core.List.{List}
 use mathlib.Core.Logic.{_↔_}
 use mathlib.Core.Option.{Option, none, some, Option·some-ne-none}
 use lib.ListN.{length}
-use Rattle.rules.specs.Replies.{Refusal, Reply, Opening}
-use Rattle.rules.specs.Checks.{firstHit, openingChecks}
-use Rattle.rules.specs.Given.{Given, OpeningGiven}
-use Rattle.rules.proofs.Given.{opening-exactly}
-use Rattle.rules.proofs.Turns.{turn-given}
+use Rattle.rules.specs.steps.Replies.{Refusal, Reply, Opening}
+use Rattle.rules.specs.steps.Checks.{firstHit, openingChecks}
+use Rattle.rules.specs.steps.Given.{Given, OpeningGiven}
+use Rattle.rules.proofs.steps.Given.{opening-exactly}
+use Rattle.rules.proofs.steps.Turns.{turn-given}
 use Rattle.layout.specs.Places.{size}
 use Rattle.promises.specs.Opening.{openingRefusal, openingReply, openingWords, OpeningPromise}
 use Rattle.promises.specs.Stepping.{askedOf, turnOf, stepWords, StepPromise}

@@ -4,11 +4,11 @@ use native.Mathlib.Omega.{arith}
 use mathlib.Core.Path.{_≡_, sym, ap, _∙_}
 use mathlib.Core.List.{List}
 use lib.ListN.{getD}
-use Rattle.rules.specs.Register.{blank}
-use Rattle.rules.specs.History.{History}
-use Rattle.rules.specs.Demand.{Ask, Consistent}
-use Rattle.rules.specs.Judge.{Told}
-use Rattle.rules.proofs.ThirdDemand.{CellTold, cells-told, third-demand, history-tells}
+use Rattle.rules.specs.steps.Register.{blank}
+use Rattle.rules.specs.history.History.{History}
+use Rattle.rules.specs.demand.Demand.{Ask, Consistent}
+use Rattle.rules.specs.demand.Judge.{Told}
+use Rattle.rules.proofs.demand.ThirdDemand.{CellTold, cells-told, third-demand, history-tells}
 use Rattle.layout.specs.Places.{bodyOf, cellStart, cellLong}
 use Rattle.layout.specs.View.{wordSetting, viewCell, view}
 use Rattle.layout.proofs.Rows.{part-at, below-inside, below-is}

@@ -10,14 +10,14 @@ use native.Mathlib.Omega.{arith}
 use lib.Dec.{ltb}
 use lib.ListN.{length, drop}
 use borrow.Author.Tests.{ltb-false, not-false}
-use Rattle.rules.specs.Codes.{Step}
-use Rattle.rules.specs.Replies.{Refusal, Reply, ready}
-use Rattle.rules.specs.Register.{fresh}
-use Rattle.rules.specs.Checks.{firstHit, inRange, openingChecks}
-use Rattle.rules.specs.Given.{Free}
-use Rattle.rules.proofs.Given.{none-holds, Verdict, verdict}
-use Rattle.rules.proofs.Turns.{refusedTurn, takenTurn, given-turn, free-turn}
-use Rattle.rules.proofs.Confined.{Confined, step-confined, fresh-confined}
+use Rattle.rules.specs.steps.Codes.{Step}
+use Rattle.rules.specs.steps.Replies.{Refusal, Reply, ready}
+use Rattle.rules.specs.steps.Register.{fresh}
+use Rattle.rules.specs.steps.Checks.{firstHit, inRange, openingChecks}
+use Rattle.rules.specs.steps.Given.{Free}
+use Rattle.rules.proofs.steps.Given.{none-holds, Verdict, verdict}
+use Rattle.rules.proofs.steps.Turns.{refusedTurn, takenTurn, given-turn, free-turn}
+use Rattle.rules.proofs.steps.Confined.{Confined, step-confined, fresh-confined}
 use Rattle.layout.specs.Places.{cellsOf, handlersOf, size, bodyOf}
 use Rattle.layout.specs.View.{wordSetting, view, viewed, registerIn}
 use Rattle.layout.specs.WellFormed.{WellFormed}

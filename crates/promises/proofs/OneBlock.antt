@@ -6,11 +6,11 @@ use mathlib.Core.List.{List, [], _∷_, _++_}
 use lib.Dec.{eqb}
 use lib.ListN.{length, take, drop}
 use borrow.Author.Tests.{eqb-true, eqb-false}
-use Rattle.rules.specs.Tables.{put}
-use Rattle.rules.specs.Codes.{try}
-use Rattle.rules.specs.Register.{Handler, Register, withHandler}
-use Rattle.rules.proofs.Tables.{put-here, put-other, by}
-use Rattle.rules.proofs.Properties.{OneHandler, changes-one}
+use Rattle.rules.specs.steps.Tables.{put}
+use Rattle.rules.specs.steps.Codes.{try}
+use Rattle.rules.specs.steps.Register.{Handler, Register, withHandler}
+use Rattle.rules.proofs.steps.Tables.{put-here, put-other, by}
+use Rattle.rules.proofs.steps.Properties.{OneHandler, changes-one}
 use Rattle.layout.specs.Places.{cellsOf, handlersOf, bodyLong, bodyOf, handlerStart, handlerLong}
 use Rattle.layout.specs.View.{wordSetting, pourHandler, viewed, registerIn}
 use Rattle.layout.proofs.Tested.{tested}

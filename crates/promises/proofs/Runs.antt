@@ -7,14 +7,14 @@ use mathlib.Core.List.{List, [], _∷_, _++_, append-nil, append-assoc}
 use mathlib.Core.Option.{none}
 use lib.ListN.{length}
 use borrow.Author.Tests.{le-ltb}
-use Rattle.rules.specs.Replies.{Reply, ready}
-use Rattle.rules.specs.Register.{Setting, fresh}
-use Rattle.rules.specs.Checks.{firstHit, openingChecks}
-use Rattle.rules.specs.Given.{InRange}
-use Rattle.rules.specs.Turn.{turn}
-use Rattle.rules.specs.History.{History, noHistory}
-use Rattle.rules.specs.Demand.{Ask, State, start, moved, run}
-use Rattle.rules.proofs.Given.{range-tested}
+use Rattle.rules.specs.steps.Replies.{Reply, ready}
+use Rattle.rules.specs.steps.Register.{Setting, fresh}
+use Rattle.rules.specs.steps.Checks.{firstHit, openingChecks}
+use Rattle.rules.specs.steps.Given.{InRange}
+use Rattle.rules.specs.steps.Turn.{turn}
+use Rattle.rules.specs.history.History.{History, noHistory}
+use Rattle.rules.specs.demand.Demand.{Ask, State, start, moved, run}
+use Rattle.rules.proofs.steps.Given.{range-tested}
 use Rattle.layout.specs.Places.{cellsOf, handlersOf, size, bodyOf}
 use Rattle.layout.specs.View.{wordSetting, view, registerIn}
 use Rattle.layout.specs.WellFormed.{WellFormed}

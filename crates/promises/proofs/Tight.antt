@@ -3,7 +3,7 @@ use Prim.Native.Nat.{ℕ}
 use mathlib.Core.Path.{_≡_, sym, _∙_}
 use mathlib.Core.List.{List}
 use mathlib.Core.Option.{Option}
-use Rattle.rules.specs.Replies.{Reply, Opening}
+use Rattle.rules.specs.steps.Replies.{Reply, Opening}
 use Rattle.promises.specs.Lengths.{LengthPromise}
 use Rattle.promises.specs.Opening.{OpeningPromise}
 use Rattle.promises.specs.Stepping.{StepPromise}

@@ -3,9 +3,9 @@ use Prim.Native.Nat.{ℕ, _≤_}
 use mathlib.Core.Bool.{true}
 use mathlib.Core.Path.{_≡_}
 use mathlib.Core.List.{List}
-use Rattle.rules.specs.Replies.{Reply, reported}
-use Rattle.rules.specs.Register.{Register}
-use Rattle.rules.specs.Turn.{Turn, turn}
+use Rattle.rules.specs.steps.Replies.{Reply, reported}
+use Rattle.rules.specs.steps.Register.{Register}
+use Rattle.rules.specs.steps.Turn.{Turn, turn}
 use Rattle.layout.specs.View.{wordSetting, view, holding}
 
 -- The rules' turn on the register that a good body says.

@@ -6,13 +6,13 @@ use mathlib.Core.Bool.{true}
 use mathlib.Core.List.{List}
 use mathlib.Core.Logic.{_↔_}
 use lib.ListN.{getD}
-use Rattle.rules.specs.Codes.{known, try, kindOf}
-use Rattle.rules.specs.Replies.{torn, overtaken, aborted, Reply}
-use Rattle.rules.specs.History.{History, writer}
-use Rattle.rules.specs.Past.{Tears, upTo}
-use Rattle.rules.specs.Replay.{Legal}
-use Rattle.rules.specs.Demand.{Ask, reportedTo, FirstRead}
-use Rattle.rules.specs.Judge.{numberAmong, judgement, Overtaken}
+use Rattle.rules.specs.steps.Codes.{known, try, kindOf}
+use Rattle.rules.specs.steps.Replies.{torn, overtaken, aborted, Reply}
+use Rattle.rules.specs.history.History.{History, writer}
+use Rattle.rules.specs.history.Past.{Tears, upTo}
+use Rattle.rules.specs.history.Replay.{Legal}
+use Rattle.rules.specs.demand.Demand.{Ask, reportedTo, FirstRead}
+use Rattle.rules.specs.demand.Judge.{numberAmong, judgement, Overtaken}
 use Rattle.layout.specs.Rows.{below}
 use Rattle.layout.specs.Places.{bodyOf, cellStart}
 use Rattle.layout.specs.View.{wordSetting}

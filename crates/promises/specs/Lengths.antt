@@ -2,8 +2,8 @@
 use Prim.Native.Nat.{ℕ}
 use mathlib.Core.Path.{_≡_}
 use mathlib.Core.Option.{Option, none, some}
-use Rattle.rules.specs.Tables.{if_then_else_}
-use Rattle.rules.specs.Checks.{inRange}
+use Rattle.rules.specs.steps.Tables.{if_then_else_}
+use Rattle.rules.specs.steps.Checks.{inRange}
 use Rattle.layout.specs.Places.{size}
 
 -- The length of a register of m cells and n handlers, if m and n are in range.

@@ -4,9 +4,9 @@ use mathlib.Core.Path.{_≡_}
 use mathlib.Core.List.{List}
 use mathlib.Core.Option.{Option, none, some}
 use lib.ListN.{length}
-use Rattle.rules.specs.Replies.{Refusal, Opening, ready}
-use Rattle.rules.specs.Register.{fresh}
-use Rattle.rules.specs.Checks.{firstHit, openingChecks}
+use Rattle.rules.specs.steps.Replies.{Refusal, Opening, ready}
+use Rattle.rules.specs.steps.Register.{fresh}
+use Rattle.rules.specs.steps.Checks.{firstHit, openingChecks}
 use Rattle.layout.specs.Places.{size}
 use Rattle.layout.specs.View.{wordSetting, registerIn}
 

@@ -2,10 +2,10 @@
 -- is noted from what is asked for and what is replied; no word is looked at, and nothing is assumed of what the words say.
 use Prim.Native.Nat.{ℕ}
 use mathlib.Core.List.{List, [], _∷_, _++_}
-use Rattle.rules.specs.Codes.{kindOf}
-use Rattle.rules.specs.Replies.{Reply, ready}
-use Rattle.rules.specs.History.{History, noHistory, noteReply}
-use Rattle.rules.specs.Demand.{Ask}
+use Rattle.rules.specs.steps.Codes.{kindOf}
+use Rattle.rules.specs.steps.Replies.{Reply, ready}
+use Rattle.rules.specs.history.History.{History, noHistory, noteReply}
+use Rattle.rules.specs.demand.Demand.{Ask}
 use Rattle.promises.specs.Opening.{OpeningPromise}
 use Rattle.promises.specs.Stepping.{StepPromise}
 

@@ -2,12 +2,12 @@
 use Prim.Native.Nat.{ℕ}
 use mathlib.Core.Path.{_≡_}
 use mathlib.Core.List.{List}
-use Rattle.rules.specs.Replies.{Reply, reported}
-use Rattle.rules.specs.Register.{Register}
-use Rattle.rules.specs.Codes.{Step}
-use Rattle.rules.specs.Checks.{Asked}
-use Rattle.rules.specs.Figure.{Result, step}
-use Rattle.rules.specs.Turn.{Turn, asked, turn}
+use Rattle.rules.specs.steps.Replies.{Reply, reported}
+use Rattle.rules.specs.steps.Register.{Register}
+use Rattle.rules.specs.steps.Codes.{Step}
+use Rattle.rules.specs.steps.Checks.{Asked}
+use Rattle.rules.specs.steps.Figure.{Result, step}
+use Rattle.rules.specs.steps.Turn.{Turn, asked, turn}
 use Rattle.layout.specs.Places.{cellsOf, handlersOf}
 use Rattle.layout.specs.View.{wordSetting, viewed, registerIn}
 use Rattle.layout.specs.WellFormed.{isWellFormed}

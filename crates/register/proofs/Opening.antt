@@ -7,9 +7,9 @@ use native.Mathlib.Omega.{arith}
 use native.Mathlib.Nat.{zero-add}
 use lib.ListN.{length, getD, drop}
 use borrow.Author.Tests.{lt-ltb, le-ltb}
-use Rattle.rules.specs.Replies.{outOfRange, tooShort, Opening, ready}
-use Rattle.rules.specs.Register.{zeros, idle, blank, fresh}
-use Rattle.rules.specs.Checks.{firstHit, inRange, openingChecks}
+use Rattle.rules.specs.steps.Replies.{outOfRange, tooShort, Opening, ready}
+use Rattle.rules.specs.steps.Register.{zeros, idle, blank, fresh}
+use Rattle.rules.specs.steps.Checks.{firstHit, inRange, openingChecks}
 use Rattle.layout.specs.Rows.{part}
 use Rattle.layout.specs.Places.{size, bodyLong, bodyOf, cellLong, handlerLong, cellStart, handlerStart, cellPart, handlerPart}
 use Rattle.layout.specs.View.{wordSetting}

@@ -4,7 +4,7 @@ use mathlib.Core.Path.{_≡_}
 use mathlib.Core.Bool.{false}
 use mathlib.Core.List.{List}
 use borrow.Author.Tests.{le-ltb}
-use Rattle.rules.specs.Register.{hasOpen, idle}
+use Rattle.rules.specs.steps.Register.{hasOpen, idle}
 use Rattle.layout.specs.Rows.{below}
 use Rattle.layout.specs.View.{view}
 

@@ -4,26 +4,26 @@ use native.Mathlib.Omega.{arith}
 use mathlib.Core.Path.{_≡_, refl, ap, _∙_}
 use mathlib.Core.List.{List, _∷_}
 use mathlib.Core.Option.{none, some}
-use Rattle.rules.specs.Codes.{Step, known, kindOf}
-use Rattle.rules.specs.Replies.{Refusal, notWellFormed, Outcome, Reply, reported}
-use Rattle.rules.specs.Checks.{firstHit, Asked, stepChecks}
-use Rattle.rules.specs.Turn.{Turn, asked, refusalOf, turned, turn}
-use Rattle.rules.proofs.Given.{given-exactly, free-exactly}
-use Rattle.rules.proofs.Turns.{refusedTurn, takenTurn, given-turn, free-turn}
+use Rattle.rules.specs.steps.Codes.{Step, known, kindOf}
+use Rattle.rules.specs.steps.Replies.{Refusal, notWellFormed, Outcome, Reply, reported}
+use Rattle.rules.specs.steps.Checks.{firstHit, Asked, stepChecks}
+use Rattle.rules.specs.steps.Turn.{Turn, asked, refusalIs, turned, turn}
+use Rattle.rules.proofs.steps.Given.{given-exactly, free-exactly}
+use Rattle.rules.proofs.steps.Turns.{refusedTurn, takenTurn, given-turn, free-turn}
 use Rattle.layout.specs.Places.{cellsOf, handlersOf, bodyOf}
 use Rattle.layout.specs.View.{wordSetting, view}
 use Rattle.layout.specs.WellFormed.{WellFormed, PhasesTo, isWellFormed}
 use Rattle.layout.specs.Bits.{bit}
 use Rattle.layout.proofs.Kept.{view-phases, well-long}
 use Rattle.layout.proofs.Fronts.{register-front}
-use Rattle.rules.specs.Given.{phaseFor}
-use Rattle.rules.specs.Register.{Register, hasOpen}
+use Rattle.rules.specs.steps.Given.{phaseFor}
+use Rattle.rules.specs.steps.Register.{Register, hasOpen}
 use mathlib.Core.Bool.{true, false, not}
 use lib.Dec.{eqb}
 use Rattle.layout.proofs.Tested.{tested}
 use Rattle.promises.specs.Stepping.{turnOf, stepWords, StepPromise}
 use Rattle.promises.specs.Bodies.{bodyTurn, bodyWords, BodyPromise}
-use Rattle.turns.specs.Takes.{Ready, Takes, Standing}
+use Rattle.steps.specs.Takes.{Ready, Takes, WholeBody}
 
 -- A handler of a register whose phases are 0 and 1 is in the phase that a step asks for, by whether it is open.
 phased : (m n i : ℕ) (body : List ℕ) → PhasesTo 1 m n body → (s : Step) → i < n → hasOpen (view m n body .handlers i) ≡ phaseFor s
@@ -36,7 +36,7 @@ phased m n i body phases s inside opens =
     by-open (suc zero) low = refl
     by-open (suc (suc k)) low = absurd (omega arith)
 
-module _ {m n : ℕ} {body : List ℕ} (standing : Standing m n body) (handler code value : ℕ) where
+module _ {m n : ℕ} {body : List ℕ} (standing : WholeBody m n body) (handler code value : ℕ) where
   -- What is asked of the register that the body says.
   abbrev here : Asked
   here = asked (wordSetting m) n true (view m n body) handler code
@@ -82,13 +82,13 @@ module _ {m n : ℕ} {body : List ℕ} (standing : Standing m n body) (handler c
 -- ── Whole words ───────────────────────────────────────────────────────
 
 -- Well-formed words have such a body.
-pub stands : {words : List ℕ} → WellFormed words → Standing (cellsOf words) (handlersOf words) (bodyOf words)
+pub stands : {words : List ℕ} → WellFormed words → WholeBody (cellsOf words) (handlersOf words) (bodyOf words)
 stands w = record { formed = record { good = w .body; few = w .range .cells }; most = w .range .handlers; phases = w .phases }
 
 module _ (words : List ℕ) (handler code value : ℕ) where
   -- Words that are no register are refused.
   pub malformed-stops : isWellFormed words ≡ false → StepPromise words handler code value (Reply.refused notWellFormed) words
-  unfolding turnOf stepWords turn refusalOf turned firstHit stepChecks
+  unfolding turnOf stepWords turn refusalIs turned firstHit stepChecks
   malformed-stops malformed = record { replied = rw malformed; left = rw malformed }
 
   -- What the body promises the words promise, with m and n in front.

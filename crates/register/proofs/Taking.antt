@@ -2,11 +2,11 @@
 use Prim.Native.Nat.{ℕ}
 use mathlib.Core.Path.{_≡_}
 use mathlib.Core.List.{List}
-use Rattle.rules.specs.Codes.{Step, begin, try, read, Kind, known}
-use Rattle.rules.specs.Replies.{Outcome}
-use Rattle.rules.specs.Figure.{step}
-use Rattle.turns.specs.Takes.{Ready, Takes}
-use Rattle.steps.proofs.OneStep.{of-kind, for-kind}
+use Rattle.rules.specs.steps.Codes.{Step, begin, try, read, Kind, known}
+use Rattle.rules.specs.steps.Replies.{Outcome}
+use Rattle.rules.specs.steps.Figure.{step}
+use Rattle.steps.specs.Takes.{Ready, Takes}
+use Rattle.checks.proofs.OneStep.{of-kind, for-kind}
 
 module _ {m n i : ℕ} {words : List ℕ} {kind : Kind} where
   -- What is ready for the step of the kind is ready for this one.

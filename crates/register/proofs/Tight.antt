@@ -3,14 +3,14 @@ use Prim.Native.Nat.{ℕ}
 use mathlib.Core.Path.{_≡_, refl}
 use mathlib.Core.List.{List}
 use mathlib.Core.Option.{Option, none, some}
-use Rattle.rules.proofs.Numbers.{Injective, read-back}
+use Rattle.rules.proofs.steps.Numbers.{Injective, read-back}
 use Rattle.promises.specs.Lengths.{LengthPromise}
 use Rattle.promises.specs.Opening.{OpeningPromise}
 use Rattle.promises.specs.Stepping.{StepPromise}
 use Rattle.promises.proofs.Tight.{opening-determined, step-determined, length-determined}
 use Rattle.replies.specs.declared.Answer.{Answer}
 use Rattle.replies.specs.declared.Opened.{Opened}
-use Rattle.replies.specs.Meaning.{replyOf, openingOf}
+use Rattle.replies.specs.Meaning.{replyIs, openingIs}
 use Rattle.replies.proofs.Apart.{answers-apart, openings-apart}
 use Rattle.register.specs.declared.Needed.{Needed}
 use Rattle.register.specs.declared.Needed.the-variants.{Words, Nothing}
@@ -36,10 +36,10 @@ needed-determined p q = lengths-apart _ _ (length-determined p q)
 module _ {words : List ℕ} where
   -- Opening has one answer, and leaves one list of words.
   pub opened-determined : {m n : ℕ} {a b : Opened} {after other : List ℕ}
-      → OpeningPromise words m n (openingOf a) after → OpeningPromise words m n (openingOf b) other → (a ≡ b) × (after ≡ other)
+      → OpeningPromise words m n (openingIs a) after → OpeningPromise words m n (openingIs b) other → (a ≡ b) × (after ≡ other)
   opened-determined p q = let same = opening-determined p q in (openings-apart _ _ (same .0), same .1)
 
   -- A step has one answer, and leaves one list of words.
   pub answer-determined : {handler code value : ℕ} {a b : Answer} {after other : List ℕ}
-      → StepPromise words handler code value (replyOf a) after → StepPromise words handler code value (replyOf b) other → (a ≡ b) × (after ≡ other)
+      → StepPromise words handler code value (replyIs a) after → StepPromise words handler code value (replyIs b) other → (a ≡ b) × (after ≡ other)
   answer-determined p q = let same = step-determined p q in (answers-apart _ _ (same .0), same .1)

@@ -2,9 +2,9 @@
 use Prim.Native.Nat.{ℕ}
 use mathlib.Core.List.{List}
 use mathlib.Core.Option.{Option, none, some}
-use Rattle.rules.specs.Codes.{Kind}
-use Rattle.rules.specs.Register.{hasOpen}
-use Rattle.rules.specs.Checks.{Asked}
+use Rattle.rules.specs.steps.Codes.{Kind}
+use Rattle.rules.specs.steps.Register.{hasOpen}
+use Rattle.rules.specs.steps.Checks.{Asked}
 use Rattle.layout.specs.Places.{cellsOf, handlersOf}
 use Rattle.layout.specs.View.{viewed}
 use Rattle.layout.specs.WellFormed.{isWellFormed}

@@ -1,15 +1,15 @@
 // A step on a register's body, whatever stands in front of it: refused by its checks, or taken.
 ghost use mathlib.Core.Path.{_≡_};
 ghost use Prim.Native.Nat.{_≤_};
-ghost use Rattle.rules.specs.Register.{hasOpen};
+ghost use Rattle.rules.specs.steps.Register.{hasOpen};
 ghost use Rattle.layout.specs.View.{view};
 ghost use Rattle.promises.specs.Bodies.{BodyPromise};
-ghost use Rattle.replies.specs.Meaning.{replyOf};
-ghost use Rattle.turns.specs.Takes.{Formed, Standing};
+ghost use Rattle.replies.specs.Meaning.{replyIs};
+ghost use Rattle.steps.specs.Takes.{Formed, WholeBody};
 use crate::take::take;
+use checks::Verdict;
 use replies::Answer;
 use replies::Report;
-use steps::Verdict;
 
 // Whether a handler's transaction is open; of handler n or above there is none.
 fn has_open(body: &[u32], m: usize, n: usize, handler: u32) -> bool
@@ -20,7 +20,7 @@ fn has_open(body: &[u32], m: usize, n: usize, handler: u32) -> bool
     if n <= i {
         return false;
     }
-    turns::is_open(body, m, n, i)
+    steps::is_open(body, m, n, i)
 }
 
 // Takes the step of a handler, or refuses it.
@@ -32,13 +32,13 @@ pub fn step_body(
     code: u32,
     value: u32,
 ) -> Answer
-    requires { ⌜ Standing m n (now body) ⌝ }
-    ensures { λ r. ⌜ BodyPromise m n (now (body .entry)) handler code value (replyOf r) (now (body .exit)) ⌝ }
+    requires { ⌜ WholeBody m n (now body) ⌝ }
+    ensures { λ r. ⌜ BodyPromise m n (now (body .entry)) handler code value (replyIs r) (now (body .exit)) ⌝ }
 {
-    let kind = steps::kind_of(code);
+    let kind = checks::kind_of(code);
     let opened = has_open(body, m, n, handler);
     let handlers = n as u32;
-    let verdict = steps::verdict_of(m, handlers, handler, kind, opened);
+    let verdict = checks::verdict_of(m, handlers, handler, kind, opened);
     match verdict {
         Verdict::Refuses(refusal) => Answer::Refused(refusal),
         Verdict::Passes => {

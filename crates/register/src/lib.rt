@@ -6,7 +6,7 @@ mod take;
 ghost use Rattle.promises.specs.Opening.{OpeningPromise};
 ghost use Rattle.promises.specs.Stepping.{StepPromise};
 ghost use Rattle.promises.specs.Lengths.{LengthPromise};
-ghost use Rattle.replies.specs.Meaning.{replyOf, openingOf};
+ghost use Rattle.replies.specs.Meaning.{replyIs, openingIs};
 ghost use Rattle.register.specs.Meaning.{neededIs};
 pub use body::step_body;
 use replies::Answer;
@@ -33,7 +33,7 @@ pub fn words_needed(m: u32, n: u32) -> Needed
 
 // Opens a register of m cells and n handlers in front of the words.
 pub fn open(words: &mut [u32], m: u32, n: u32) -> Opened
-    ensures { λ r. ⌜ OpeningPromise (now (words .entry)) m n (openingOf r) (now (words .exit)) ⌝ }
+    ensures { λ r. ⌜ OpeningPromise (now (words .entry)) m n (openingIs r) (now (words .exit)) ⌝ }
 {
     if !formed::in_range(m, n) {
         return Opened::Rejected(Refusal::OutOfRange);
@@ -52,7 +52,7 @@ pub fn open(words: &mut [u32], m: u32, n: u32) -> Opened
 
 // Takes the step of a handler, or refuses it.
 pub fn step(words: &mut [u32], handler: u32, code: u32, value: u32) -> Answer
-    ensures { λ r. ⌜ StepPromise (now (words .entry)) handler code value (replyOf r) (now (words .exit)) ⌝ }
+    ensures { λ r. ⌜ StepPromise (now (words .entry)) handler code value (replyIs r) (now (words .exit)) ⌝ }
 {
     if !formed::well_formed(words) {
         return Answer::Refused(Refusal::NotWellFormed);

@@ -2,7 +2,7 @@
 // line `refused N`.
 use libc::STDIN_FILENO;
 use replies::Opened;
-use schedule::Judged;
+use schedule::Admitted;
 
 // Each order place, one after another. There are fewer than the file has bytes.
 fn run_order(file: &[u8], words: &mut [u32]) {
@@ -39,8 +39,8 @@ fn main() {
     let mut buffer = io::large_buffer();
     let count = io::read_full(STDIN_FILENO, &mut buffer);
     let file = &buffer[..count];
-    match schedule::judge_file(file) {
-        Judged::Sound { handlers, cells } => run_file(file, handlers, cells),
-        Judged::Rejected(refusal) => lines::print_refused(refusal),
+    match schedule::admit_file(file) {
+        Admitted::Sound { handlers, cells } => run_file(file, handlers, cells),
+        Admitted::Rejected(refusal) => lines::print_refused(refusal),
     }
 }

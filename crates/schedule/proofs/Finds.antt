@@ -6,9 +6,9 @@ use mathlib.Core.List.{List, []}
 use mathlib.Core.Option.{Option, none, some}
 use lib.Dec.{leb}
 use borrow.Author.Tests.{leb-false, le-leb, lt-leb, not-false}
-use Rattle.rules.specs.Replies.{Refusal, badFile, noHandler}
-use Rattle.rules.specs.Checks.{firstHit}
-use Rattle.rules.proofs.Given.{none-holds}
+use Rattle.rules.specs.steps.Replies.{Refusal, badFile, noHandler}
+use Rattle.rules.specs.steps.Checks.{firstHit}
+use Rattle.rules.proofs.steps.Given.{none-holds}
 use Rattle.schedule.specs.Sound.{handlersIn, scriptIn, SoundFile, isSoundFile}
 use Rattle.schedule.specs.Finding.{scriptChecks, scriptRefusal, foundPart, ScriptPromise, AnswerPromise}
 use Rattle.schedule.proofs.Sounds.{file-tested}

@@ -1,7 +1,7 @@
 -- Laws of the schedule file, in the order in which they are best read.
 pub mod Sounds
 pub mod Wholes
-pub mod Judges
+pub mod Admits
 pub mod Finds
 pub mod Takes
 pub mod Nexts

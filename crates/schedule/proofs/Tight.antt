@@ -2,23 +2,23 @@
 use Prim.Native.Nat.{ℕ}
 use mathlib.Core.Path.{_≡_, sym, _∙_}
 use mathlib.Core.List.{List}
-use Rattle.schedule.specs.Judging.{JudgePromise}
+use Rattle.schedule.specs.Admitting.{AdmissionPromise}
 use Rattle.schedule.specs.Finding.{ScriptPromise, AnswerPromise}
 use Rattle.schedule.specs.Taking.{Cursors, NextPromise}
 use Rattle.schedule.specs.Lines.{Player, PlacePromise}
 use Rattle.schedule.specs.Shown.{lineIs}
 use Rattle.schedule.specs.declared.Shown.{Shown}
-use Rattle.schedule.specs.declared.Judged.{Judged}
+use Rattle.schedule.specs.declared.Admitted.{Admitted}
 use Rattle.schedule.specs.declared.Found.{Found}
 use Rattle.schedule.specs.declared.Next.{Next}
-use Rattle.schedule.specs.Meaning.{judgementIs, foundIs, nextIs}
-use Rattle.schedule.proofs.Apart.{judged-apart, found-apart, nexts-apart}
+use Rattle.schedule.specs.Meaning.{admissionIs, foundIs, nextIs}
+use Rattle.schedule.proofs.Apart.{admitted-apart, found-apart, nexts-apart}
 use Rattle.schedule.proofs.ShownApart.{shown-apart}
 
 module _ {file : List ℕ} where
-  -- A judgement has one outcome.
-  pub judge-determined : {a b : Judged} → JudgePromise file (judgementIs a) → JudgePromise file (judgementIs b) → a ≡ b
-  judge-determined p q = judged-apart _ _ (p .replied ∙ sym (q .replied))
+  -- An admission has one outcome.
+  pub admit-determined : {a b : Admitted} → AdmissionPromise file (admissionIs a) → AdmissionPromise file (admissionIs b) → a ≡ b
+  admit-determined p q = admitted-apart _ _ (p .replied ∙ sym (q .replied))
 
   -- A script has one part.
   pub script-determined : {handler : ℕ} {a b : List ℕ} → ScriptPromise file handler a → ScriptPromise file handler b → a ≡ b

@@ -8,10 +8,10 @@ use native.Mathlib.Nat.{add-zero}
 use native.Mathlib.Omega.{arith}
 use lib.ListN.{length, getD, drop, length-drop, drop-of-length-le}
 use lib.Seq.{getD-drop, drop-drop}
-use Rattle.rules.specs.Tables.{isFound}
-use Rattle.rules.specs.Codes.{begin, try, read, write, Kind, known, unknown, kindOf}
-use Rattle.rules.specs.Checks.{isUnknown}
-use Rattle.rules.proofs.Tables.{both-ways}
+use Rattle.rules.specs.steps.Tables.{isFound}
+use Rattle.rules.specs.steps.Codes.{begin, try, read, write, Kind, known, unknown, kindOf}
+use Rattle.rules.specs.steps.Checks.{isUnknown}
+use Rattle.rules.proofs.steps.Tables.{both-ways}
 use Rattle.schedule.specs.Bytes.{byteAt}
 use Rattle.schedule.specs.Scripts.{ScriptStep, valueLong, firstStep, before, stepsBehind, stepsOf, isWhole}
 use Rattle.schedule.specs.Taking.{stepLong}

@@ -1,13 +1,13 @@
 -- A handler's script, asked for by the handler: its body as the very part of the file, and beside it the answer that tells found,
--- 30 and 11 apart. Codes are not judged here.
+-- 30 and 11 apart. Codes are not looked at here.
 use Prim.Native.Nat.{ℕ}
 use mathlib.Core.Path.{_≡_}
 use mathlib.Core.Bool.{not}
 use mathlib.Core.List.{List, [], _∷_}
 use mathlib.Core.Option.{Option, none, some}
 use lib.Dec.{leb}
-use Rattle.rules.specs.Replies.{Refusal, badFile, noHandler}
-use Rattle.rules.specs.Checks.{Check, _when_, firstHit}
+use Rattle.rules.specs.steps.Replies.{Refusal, badFile, noHandler}
+use Rattle.rules.specs.steps.Checks.{Check, _when_, firstHit}
 use Rattle.schedule.specs.Sound.{handlersIn, scriptIn, isSoundFile}
 
 -- 30 where the file is not sound, 11 for handler n or above.

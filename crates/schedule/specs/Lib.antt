@@ -2,7 +2,7 @@
 pub mod Bytes
 pub mod Sound
 pub mod Scripts
-pub mod Judging
+pub mod Admitting
 pub mod Finding
 pub mod Taking
 pub mod Runs

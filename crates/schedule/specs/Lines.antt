@@ -4,7 +4,7 @@ use Prim.Native.Nat.{ℕ, zero, suc, _+_}
 use mathlib.Core.Path.{_≡_}
 use mathlib.Core.List.{List, [], _∷_}
 use mathlib.Core.Option.{Option, none, some}
-use Rattle.rules.specs.Replies.{Reply}
+use Rattle.rules.specs.steps.Replies.{Reply}
 use Rattle.promises.specs.Stepping.{turnOf, stepWords}
 use Rattle.schedule.specs.Scripts.{ScriptStep}
 use Rattle.schedule.specs.Taking.{Cursors, Next, rejected, over, refused, taken, nextOf, cursorsAfter}
@@ -23,7 +23,7 @@ theRegister = record {
 }
 
 -- Lines, and the words at the end.
-pub record WordRun : Type 0 where
+pub record Stretch : Type 0 where
   pub lines : List Line
   pub words : List ℕ
 
@@ -48,7 +48,7 @@ module _ (player : Player) where
   wordsFor words (taken handler step) = player .after words handler step
 
   -- So many order places, one after another.
-  unfoldable pub placesFrom : List ℕ → ℕ → Cursors → ℕ → List ℕ → WordRun
+  unfoldable pub placesFrom : List ℕ → ℕ → Cursors → ℕ → List ℕ → Stretch
   placesFrom file zero cursors place words = record { lines = []; words = words }
   placesFrom file (suc count) cursors place words =
       let next = nextOf file cursors place in

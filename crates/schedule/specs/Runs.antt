@@ -5,14 +5,14 @@ use mathlib.Core.Bool.{true}
 use mathlib.Core.List.{List, [], _∷_}
 use mathlib.Core.Option.{Option, none, some}
 use lib.Dec.{leb}
-use Rattle.rules.specs.Tables.{if_then_else_, put}
-use Rattle.rules.specs.Replies.{Refusal, noHandler, usedUp, Reply}
-use Rattle.rules.specs.Register.{Register, fresh}
-use Rattle.rules.specs.Turn.{turn}
+use Rattle.rules.specs.steps.Tables.{if_then_else_, put}
+use Rattle.rules.specs.steps.Replies.{Refusal, noHandler, usedUp, Reply}
+use Rattle.rules.specs.steps.Register.{Register, fresh}
+use Rattle.rules.specs.steps.Turn.{turn}
 use Rattle.layout.specs.View.{wordSetting}
 use Rattle.schedule.specs.Sound.{scriptIn, orderIn}
 use Rattle.schedule.specs.Scripts.{ScriptStep, stepsOf}
-use Rattle.schedule.specs.Judging.{Judgement, judgementOf}
+use Rattle.schedule.specs.Admitting.{Admission, admissionOf}
 
 -- A line: place, handler, step code or none where none was taken, and the reply.
 pub record Line : Type 0 where
@@ -30,14 +30,14 @@ abbrev pub stepLine : ℕ → ℕ → ℕ → Reply ℕ → Line
 stepLine place handler code reply = record { place = place; handler = handler; code = some code; reply = reply }
 
 -- Where a run stands: of each handler the steps that are not used up, and the register.
-pub record Standing : Type 0 where
+pub record RunState : Type 0 where
   pub left : ℕ → List ScriptStep
   pub register : Register ℕ
 
 -- One order place: its line, and where the run stands afterwards.
-pub record Placed : Type 0 where
+pub record PlaceRun : Type 0 where
   pub line : Line
-  pub after : Standing
+  pub after : RunState
 
 -- A run: its lines, and the register at the end.
 pub record Run : Type 0 where
@@ -46,21 +46,21 @@ pub record Run : Type 0 where
 
 module _ (m n : ℕ) where
   -- The handler's next step is asked of the register and used up, also where the register refuses it; without one, 32.
-  unfoldable pub stepped : Standing → ℕ → ℕ → List ScriptStep → Placed
+  unfoldable pub stepped : RunState → ℕ → ℕ → List ScriptStep → PlaceRun
   stepped s place handler [] = record { line = noStep place handler usedUp; after = s }
   stepped s place handler (step ∷ steps) =
       let t = turn (wordSetting m) n true (s .register) handler (step .code) (step .value) in
-      let after : Standing = record { left = put (s .left) handler steps; register = t .after } in
+      let after : RunState = record { left = put (s .left) handler steps; register = t .after } in
       record { line = stepLine place handler (step .code) (t .reply); after = after }
 
   -- An order byte names the handler whose next step is taken; 11 for handler n or above.
-  unfoldable pub ordered : Standing → ℕ → ℕ → Placed
+  unfoldable pub ordered : RunState → ℕ → ℕ → PlaceRun
   ordered s place handler =
       if leb n handler then (record { line = noStep place handler noHandler; after = s })
       else (stepped s place handler (s .left handler))
 
   -- The run of the order bytes from a place on.
-  unfoldable pub runFrom : Standing → ℕ → List ℕ → Run
+  unfoldable pub runFrom : RunState → ℕ → List ℕ → Run
   runFrom s place [] = record { lines = []; register = s .register }
   runFrom s place (handler ∷ order) =
       let here = ordered s place handler in
@@ -73,7 +73,7 @@ stepsFound none = []
 stepsFound (some steps) = steps
 
 -- Before the first step: every script whole, and a fresh register.
-unfoldable pub started : List ℕ → ℕ → Standing
+unfoldable pub started : List ℕ → ℕ → RunState
 started file m = record { left = λ handler. stepsFound (stepsOf (scriptIn file handler)); register = fresh (wordSetting m) }
 
 -- What a file comes to: n, m and a run, or the one refusal.
@@ -81,11 +81,11 @@ pub data Played : Type 0 where
   ran : ℕ → ℕ → Run → Played
   refused : Refusal → Played
 
--- What a judged file comes to; a refused one runs nothing.
-unfoldable pub playedBy : List ℕ → Judgement → Played
-playedBy file (Judgement.refused refusal) = Played.refused refusal
-playedBy file (Judgement.sound n m) = ran n m (runFrom m n (started file m) 0 (orderIn file))
+-- What an admitted file comes to; a refused one runs nothing.
+unfoldable pub playedBy : List ℕ → Admission → Played
+playedBy file (Admission.refused refusal) = Played.refused refusal
+playedBy file (Admission.sound n m) = ran n m (runFrom m n (started file m) 0 (orderIn file))
 
 -- What every file comes to.
 unfoldable pub runOf : List ℕ → Played
-runOf file = playedBy file (judgementOf file)
+runOf file = playedBy file (admissionOf file)

@@ -6,10 +6,10 @@ use mathlib.Core.List.{List, [], _∷_}
 use mathlib.Core.Option.{Option, none, some}
 use lib.Dec.{leb, ltb}
 use lib.ListN.{length, getD, set, drop, replicate}
-use Rattle.rules.specs.Tables.{if_then_else_}
-use Rattle.rules.specs.Codes.{kindOf}
-use Rattle.rules.specs.Replies.{Refusal, badFile, noHandler, usedUp, unknownStep}
-use Rattle.rules.specs.Checks.{Check, _when_, firstHit, isUnknown}
+use Rattle.rules.specs.steps.Tables.{if_then_else_}
+use Rattle.rules.specs.steps.Codes.{kindOf}
+use Rattle.rules.specs.steps.Replies.{Refusal, badFile, noHandler, usedUp, unknownStep}
+use Rattle.rules.specs.steps.Checks.{Check, _when_, firstHit, isUnknown}
 use Rattle.schedule.specs.Bytes.{byteAt}
 use Rattle.schedule.specs.Sound.{handlersIn, scriptIn, orderIn, isSoundFile}
 use Rattle.schedule.specs.Scripts.{ScriptStep, valueLong, firstStep}
@@ -49,7 +49,7 @@ stepLong bytes = 1 + valueLong (kindOf (byteAt bytes 0))
 abbrev pub isSpoilt : List ℕ → Bool
 isSpoilt bytes = isUnknown (kindOf (byteAt bytes 0)) || ltb (length bytes) (stepLong bytes)
 
--- 32 where nothing is left. 15 where no step stands in front, as is so nowhere in a run of a file that is judged sound.
+-- 32 where nothing is left. 15 where no step stands in front, as is so nowhere in a run of a file that is admitted sound.
 unfoldable pub leftChecks : List ℕ → List (Check Refusal)
 leftChecks left = (usedUp when leb (length left) 0) ∷ (unknownStep when isSpoilt left) ∷ []
 

@@ -1,17 +1,17 @@
-// The schedule file: its judgement, a handler's script as a part of it, the next step at an order place, and what a run of it shows.
+// The schedule file: its admission, a handler's script as a part of it, the next step at an order place, and what a run of it shows.
 // PUBLIC: nothing here has a `requires`. Each promise fixes the reply for every file, whatever its bytes and its length.
-mod judging;
+mod sound;
 mod scripts;
 mod table;
 mod taking;
 
 ghost use mathlib.Core.Path.{_≡_};
-ghost use Rattle.schedule.specs.Judging.{JudgePromise};
+ghost use Rattle.schedule.specs.Admitting.{AdmissionPromise};
 ghost use Rattle.schedule.specs.Finding.{ScriptPromise, AnswerPromise};
 ghost use Rattle.schedule.specs.Taking.{atStart, NextPromise};
-ghost use Rattle.schedule.specs.Meaning.{judgementIs, foundIs, nextIs};
-use crate::judging::sound_file;
-use crate::judging::whole_scripts;
+ghost use Rattle.schedule.specs.Meaning.{admissionIs, foundIs, nextIs};
+use crate::sound::sound_file;
+use crate::sound::whole_scripts;
 use crate::table::body;
 use crate::taking::Order;
 use crate::taking::named_step;
@@ -19,8 +19,8 @@ use crate::taking::order_byte;
 use replies::Answer;
 use replies::Refusal;
 
-// The judgement of a file: sound, with n and m, or refused.
-pub enum Judged {
+// The admission of a file: sound, with n and m, or refused.
+pub enum Admitted {
     Sound { handlers: u32, cells: u32 },
     Rejected(Refusal),
 }
@@ -76,17 +76,17 @@ pub enum End {
     Missing,
 }
 
-// Judges a file, before its first step.
-pub fn judge_file(file: &[u8]) -> Judged
-    ensures { λ r. ⌜ JudgePromise (now (file .entry)) (judgementIs r) ⌝ }
+// Admits a file or refuses it, before its first step.
+pub fn admit_file(file: &[u8]) -> Admitted
+    ensures { λ r. ⌜ AdmissionPromise (now (file .entry)) (admissionIs r) ⌝ }
 {
     if !sound_file(file) {
-        return Judged::Rejected(Refusal::BadFile);
+        return Admitted::Rejected(Refusal::BadFile);
     }
     if !whole_scripts(file) {
-        return Judged::Rejected(Refusal::UnknownStep);
+        return Admitted::Rejected(Refusal::UnknownStep);
     }
-    Judged::Sound {
+    Admitted::Sound {
         handlers: file[0] as u32,
         cells: file[1] as u32,
     }

@@ -2,7 +2,7 @@
 ghost use mathlib.Core.Path.{_≡_};
 ghost use Prim.Native.Nat.{ℕ, _+_, _<_, _≤_};
 ghost use lib.ListN.{length};
-ghost use Rattle.schedule.specs.Bytes.{shortAt, longAt, bodyOf};
+ghost use Rattle.schedule.specs.Bytes.{shortAt, longAt, entryBody};
 ghost use Rattle.schedule.specs.Sound.{SoundTable, isSoundTable};
 
 // The 16-bit number at a place.
@@ -49,7 +49,7 @@ pub fn sound_table(file: &[u8], start: usize, entries: usize) -> bool
 // The body of an entry of a sound table, as the very part of the file.
 pub fn body(file: &[u8], start: usize, k: usize) -> &[u8]
     requires { ⌜ ((entries : ℕ) × SoundTable (now file) start entries × (k < entries)) ⌝ }
-    ensures { λ r. ⌜ now r ≡ bodyOf (now (file .entry)) start k ⌝ }
+    ensures { λ r. ⌜ now r ≡ entryBody (now (file .entry)) start k ⌝ }
 {
     let at = start + 4 * k;
     let from = short_at(file, at);

@@ -1,2 +1,4 @@
--- What the enums of this crate mean in the rules.
-pub mod Meaning
+-- What the functions over a whole register require and do.
+pub mod Spans
+pub mod Takes
+pub mod Stores

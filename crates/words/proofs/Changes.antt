@@ -6,7 +6,7 @@ use native.Mathlib.Omega.{arith}
 use native.Mathlib.Nat.{zero-add}
 use borrow.Author.Count.{below-more}
 use borrow.Author.Tests.{ltb-true, ltb-false}
-use Rattle.rules.proofs.Tables.{by, SameFrom}
+use Rattle.rules.proofs.steps.Tables.{by, SameFrom}
 use lib.Dec.{ltb}
 use lib.ListN.{length, getD, set, replicate, length-set}
 use lib.Seq.{getD-set-same, getD-set-other}

@@ -3,7 +3,7 @@
 ghost use mathlib.Core.Path.{_≡_};
 ghost use Prim.Native.Nat.{_+_, _≤_, _<_};
 ghost use lib.ListN.{length, getD};
-ghost use Rattle.rules.specs.Register.{zeros};
+ghost use Rattle.rules.specs.steps.Register.{zeros};
 ghost use Rattle.layout.specs.Bits.{hasBit};
 ghost use Rattle.layout.proofs.Bits.{withBit};
 ghost use Rattle.words.specs.Rows.{Changed, RowOf};

@@ -3,7 +3,7 @@ use Prim.Native.Nat.{ℕ, _+_, _-_, _≤_, _<_}
 use native.Mathlib.Omega.{arith}
 use mathlib.Core.Path.{_≡_, sym, ap, _∙_}
 use mathlib.Core.Logic.{⊎-elim}
-use Rattle.rules.specs.Judge.{versionCount}
+use Rattle.rules.specs.demand.Judge.{versionCount}
 use Rattle.ledger.specs.Histories.{commitsIn}
 use Rattle.ledger.proofs.Versions.{versions-none, versions-wrote, versions-kept}
 use Rattle.answers.proofs.versions_of.Statement.{statement}

@@ -3,7 +3,7 @@ use Prim.Native.Nat.{ℕ, _-_, _≤_, _<_}
 use native.Mathlib.Omega.{arith}
 use mathlib.Core.Path.{_≡_, sym, _∙_}
 use mathlib.Core.Logic.{⊎-elim}
-use Rattle.rules.specs.History as History
+use Rattle.rules.specs.history.History as History
 use Rattle.ledger.specs.Histories.{commitsIn}
 use Rattle.ledger.proofs.Versions.{writer-none, writer-wrote, writer-kept}
 use Rattle.answers.proofs.writer_of.Statement.{statement}

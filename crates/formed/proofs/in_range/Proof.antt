@@ -1,8 +1,8 @@
 -- `formed::in_range` meets its contract: each test is one of the range.
 use native.Mathlib.Omega.{arith}
 use borrow.Author.Tests.{leb-true, le-leb}
-use Rattle.rules.proofs.Given.{range-tested}
-use Rattle.rules.proofs.Tables.{same-test}
+use Rattle.rules.proofs.steps.Given.{range-tested}
+use Rattle.rules.proofs.steps.Tables.{same-test}
 use Rattle.formed.proofs.Answers.{out-of-range}
 use Rattle.formed.proofs.in_range.Statement.{statement}
 use Rattle.formed.proofs.in_range.Tie as tie

@@ -4,9 +4,9 @@ use mathlib.Core.Path.{_≡_, sym, ap, _∙_}
 use mathlib.Core.Option.{some, Option·some-injective, Option·some-ne-none}
 use native.Mathlib.Omega.{arith}
 use borrow.Author.Needs.{needs}
-use Rattle.rules.specs.Checks.{inRange}
-use Rattle.rules.proofs.Given.{range-tested}
-use Rattle.rules.proofs.Tables.{by}
+use Rattle.rules.specs.steps.Checks.{inRange}
+use Rattle.rules.proofs.steps.Given.{range-tested}
+use Rattle.rules.proofs.steps.Tables.{by}
 use Rattle.layout.proofs.Places.{body-small}
 use Rattle.promises.specs.Lengths.{lengthFor}
 use Rattle.register.specs.Meaning.{neededIs}

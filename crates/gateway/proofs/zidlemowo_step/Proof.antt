@@ -2,8 +2,8 @@
 use Prim.Native.Nat.{_+_}
 use mathlib.Core.Path.{sym, ap, _∙_}
 use borrow.Author.Needs.{needs}
-use Rattle.rules.specs.Replies.{replyNumbers}
-use Rattle.replies.specs.Meaning.{replyOf}
+use Rattle.rules.specs.steps.Replies.{replyNumbers}
+use Rattle.replies.specs.Meaning.{replyIs}
 use Rattle.gateway.specs.Packed.{packed}
 use Rattle.gateway.proofs.zidlemowo_step.Statement.{statement}
 use Rattle.gateway.proofs.zidlemowo_step.Tie as tie
@@ -16,7 +16,7 @@ returns-2 c =
       reply = _;
       replied =
           c .pack .ensures ∙ ap (λ k. 17179869184 + k) (c .before .refusal-number .ensures)
-          ∙ ap (λ answer. packed (replyNumbers (replyOf answer))) (sym (c .before .before .before .refusal .given .1));
+          ∙ ap (λ answer. packed (replyNumbers (replyIs answer))) (sym (c .before .before .before .refusal .given .1));
       steps = steps .ensures;
     }
 
@@ -35,7 +35,7 @@ zidlemowo-step-spec =
     (λ c. let steps = c .before .before .before .before .before .before .step in
     record {
       reply = _;
-      replied = c .pack-outcome .ensures ∙ ap (λ answer. packed (replyNumbers (replyOf answer))) (sym (c .before .before .report .given .1));
+      replied = c .pack-outcome .ensures ∙ ap (λ answer. packed (replyNumbers (replyIs answer))) (sym (c .before .before .report .given .1));
       steps = steps .ensures;
     })
     (λ c. search needs)

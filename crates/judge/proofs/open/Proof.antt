@@ -5,10 +5,10 @@ use native.Mathlib.Omega.{arith}
 use lib.ListN.{length-set}
 use borrow.Author.Needs.{needs}
 use borrow.Author.Tests.{not-true, not-false}
-use Rattle.rules.specs.Replies.{outOfRange, tooShort}
-use Rattle.rules.specs.Checks.{inRange}
-use Rattle.rules.proofs.Tables.{both-ways}
-use Rattle.rules.proofs.Given.{range-tested}
+use Rattle.rules.specs.steps.Replies.{outOfRange, tooShort}
+use Rattle.rules.specs.steps.Checks.{inRange}
+use Rattle.rules.proofs.steps.Tables.{both-ways}
+use Rattle.rules.proofs.steps.Given.{range-tested}
 use Rattle.judge.proofs.Opening.{ledger-stops, ledger-opens}
 use Rattle.judge.proofs.open.Statement.{statement}
 use Rattle.judge.proofs.open.Tie as tie

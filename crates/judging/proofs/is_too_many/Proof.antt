@@ -3,7 +3,7 @@ use Prim.Native.Nat.{ℕ}
 use mathlib.Core.Path.{sym, ap, _∙_}
 use lib.Dec.{eqb}
 use borrow.Author.Needs.{needs}
-use Rattle.replies.specs.Meaning.{replyOf}
+use Rattle.replies.specs.Meaning.{replyIs}
 use Rattle.judging.specs.Stopping.{saysTooMany}
 use Rattle.judging.proofs.is_too_many.Statement.{statement}
 use Rattle.judging.proofs.is_too_many.Tie as tie
@@ -17,6 +17,6 @@ is-too-many-spec =
     (λ c. search needs)
     -- a refusal
     (λ c. ap (λ (number : ℕ). eqb number 33) (c .refusal-number .ensures)
-    ∙ ap (λ answer. saysTooMany (replyOf answer)) (sym (c .before .before .answer .given .1)))
+    ∙ ap (λ answer. saysTooMany (replyIs answer)) (sym (c .before .before .answer .given .1)))
     -- a report
     (λ c. search needs))

@@ -6,10 +6,10 @@ use native.Mathlib.Omega.{arith}
 use lib.ListN.{length, length-set, length-drop, take, drop}
 use borrow.Author.Needs.{needs}
 use borrow.Author.Tests.{not-true, not-false}
-use Rattle.rules.specs.Replies.{ready}
-use Rattle.rules.specs.Register.{zeros}
-use Rattle.rules.specs.Checks.{inRange}
-use Rattle.rules.proofs.Given.{range-tested}
+use Rattle.rules.specs.steps.Replies.{ready}
+use Rattle.rules.specs.steps.Register.{zeros}
+use Rattle.rules.specs.steps.Checks.{inRange}
+use Rattle.rules.proofs.steps.Given.{range-tested}
 use Rattle.layout.specs.Places.{size, bodyLong, bodyOf}
 use Rattle.layout.proofs.Places.{body-small}
 use Rattle.layout.proofs.Fronts.{counted, counted-lent, counted-back}

@@ -10,7 +10,7 @@ use Rattle.layout.proofs.Tested.{tested}
 use Rattle.layout.proofs.Kept.{well-long}
 use Rattle.layout.proofs.Fronts.{behind-is, register-back}
 use Rattle.promises.specs.Bodies.{BodyPromise}
-use Rattle.replies.specs.Meaning.{replyOf}
+use Rattle.replies.specs.Meaning.{replyIs}
 use Rattle.register.proofs.Stepping.{stands, malformed-stops, body-steps}
 use Rattle.register.proofs.step.Statement.{statement}
 use Rattle.register.proofs.step.Tie as tie
@@ -49,5 +49,5 @@ step-spec =
     let left = c .before .before .step-body .last .0 in
     rw (register-back words (omega (arith, well-long (formed tested))) left)
     (body-steps words (args .handler) (args .code) (args .value) (passed tested)
-    (subst (λ body. BodyPromise (cellsOf words) (handlersOf words) body (args .handler) (args .code) (args .value) (replyOf (c .before .before .step-body .result)) left)
+    (subst (λ body. BodyPromise (cellsOf words) (handlersOf words) body (args .handler) (args .code) (args .value) (replyIs (c .before .before .step-body .result)) left)
     (behind-is 2 words) (c .before .before .step-body .ensures)))))

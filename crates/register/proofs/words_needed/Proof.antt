@@ -6,9 +6,9 @@ use Prim.Native.Nat.{_+_}
 use native.Mathlib.Omega.{arith}
 use borrow.Author.Needs.{needs}
 use borrow.Author.Tests.{not-true, not-false}
-use Rattle.rules.specs.Checks.{inRange}
+use Rattle.rules.specs.steps.Checks.{inRange}
 use Rattle.layout.proofs.Places.{body-small}
-use Rattle.rules.proofs.Given.{range-tested}
+use Rattle.rules.proofs.steps.Given.{range-tested}
 use Rattle.promises.specs.Lengths.{lengthFor}
 use Rattle.register.proofs.words_needed.Statement.{statement}
 use Rattle.register.proofs.words_needed.Tie as tie

@@ -4,7 +4,7 @@ use mathlib.Core.Path.{_≡_, refl, _∙_}
 use mathlib.Core.List.{List}
 use native.Mathlib.Omega.{arith}
 use lib.ListN.{replicate}
-use Rattle.rules.specs.Tables.{if_then_else_}
+use Rattle.rules.specs.steps.Tables.{if_then_else_}
 use Rattle.layout.specs.Bits.{hasBit}
 use Rattle.layout.specs.Places.{writtenSetIn, transactionNumberIn}
 use Rattle.layout.specs.View.{viewHandler}

@@ -5,9 +5,9 @@ use mathlib.Core.Bool.{false, not}
 use mathlib.Core.List.{List}
 use native.Mathlib.Omega.{arith}
 use borrow.Author.Needs.{needs}
-use Rattle.rules.specs.Codes.{Step, begin, try, read, write, Kind, known}
-use Rattle.steps.specs.Meaning.{kindIs}
-use Rattle.steps.proofs.OneStep.{for-kind, no-step}
+use Rattle.rules.specs.steps.Codes.{Step, begin, try, read, write, Kind, known}
+use Rattle.checks.specs.Meaning.{kindIs}
+use Rattle.checks.proofs.OneStep.{for-kind, no-step}
 use Rattle.judge.proofs.Answers.{stale-told}
 use Rattle.judge.proofs.Tests.{tooMany, room-left, begin-passes, write-passes, read-passes, try-too-many}
 use Rattle.judge.proofs.reading.is_too_many.Statement.{statement}

@@ -4,11 +4,11 @@ use mathlib.Core.Path.{_≡_, ap}
 use mathlib.Core.List.{List}
 use native.Mathlib.Omega.{arith}
 use borrow.Author.Needs.{needs}
-use Rattle.rules.specs.Codes.{Step, begin, try, read, write, Kind, known}
-use Rattle.rules.specs.Replies.{Outcome}
-use Rattle.steps.specs.Meaning.{kindIs}
-use Rattle.steps.proofs.OneStep.{of-kind, for-kind, no-step}
-use Rattle.judge.specs.Taking.{Able, Takes}
+use Rattle.rules.specs.steps.Codes.{Step, begin, try, read, write, Kind, known}
+use Rattle.rules.specs.steps.Replies.{Outcome}
+use Rattle.checks.specs.Meaning.{kindIs}
+use Rattle.checks.proofs.OneStep.{of-kind, for-kind, no-step}
+use Rattle.judge.specs.Taking.{Able, TakesNoted}
 use Rattle.judge.proofs.Passing.{takes-begin, takes-write}
 use Rattle.judge.proofs.taking.take.Statement.{statement}
 use Rattle.judge.proofs.taking.take.Tie as tie
@@ -19,8 +19,8 @@ able-for {words} {m} {i} = of-kind (Able words m i)
 
 -- What has taken this step has taken that of the kind.
 takes-for : {words : List ℕ} {i value : ℕ} {outcome : Outcome ℕ} {after : List ℕ} {kind : Kind} (t : Step) → kind ≡ known t
-    → Takes words i t value outcome after → (s : Step) → kind ≡ known s → Takes words i s value outcome after
-takes-for {words} {i} {value} {outcome} {after} = for-kind (λ s. Takes words i s value outcome after)
+    → TakesNoted words i t value outcome after → (s : Step) → kind ≡ known s → TakesNoted words i s value outcome after
+takes-for {words} {i} {value} {outcome} {after} = for-kind (λ s. TakesNoted words i s value outcome after)
 
 pub take-spec : {M : Type 1} → statement M
 take-spec =

@@ -3,11 +3,11 @@ use mathlib.Core.Path.{_≡_, sym, ap, ap₂, _∙_}
 use mathlib.Core.Option.{none}
 use native.Mathlib.Omega.{arith}
 use borrow.Author.Needs.{needs}
-use Rattle.rules.specs.Checks.{firstHit, stepChecks}
-use Rattle.rules.specs.Turn.{asked}
+use Rattle.rules.specs.steps.Checks.{firstHit, stepChecks}
+use Rattle.rules.specs.steps.Turn.{asked}
 use Rattle.layout.specs.View.{wordSetting, view}
 use mathlib.Core.Bool.{true}
-use Rattle.steps.specs.Meaning.{verdictIs, askedPlainly}
+use Rattle.checks.specs.Meaning.{verdictIs, askedPlainly}
 use Rattle.register.proofs.Stepping.{body-stops, body-ready, body-takes}
 use Rattle.register.proofs.body.step_body.Statement.{statement}
 use Rattle.register.proofs.body.step_body.Tie as tie

@@ -1,9 +1,9 @@
 -- `register::take::take` meets its contract: each kind of code takes its step.
 use mathlib.Core.Path.{ap}
 use borrow.Author.Needs.{needs}
-use Rattle.rules.specs.Codes.{begin, try, read, write}
-use Rattle.steps.specs.Meaning.{kindIs}
-use Rattle.steps.proofs.OneStep.{no-step}
+use Rattle.rules.specs.steps.Codes.{begin, try, read, write}
+use Rattle.checks.specs.Meaning.{kindIs}
+use Rattle.checks.proofs.OneStep.{no-step}
 use Rattle.register.proofs.Taking.{ready-for, takes-for, begin-any, try-any, read-any}
 use Rattle.register.proofs.take.take.Statement.{statement}
 use Rattle.register.proofs.take.take.Tie as tie

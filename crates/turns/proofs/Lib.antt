@@ -1,7 +1,0 @@
--- Laws of the steps over a whole register.
-pub mod Lent
-pub mod Said
-pub mod Reading
-pub mod Storing
-pub mod Trying
-pub mod Committing
