@@ -17,7 +17,7 @@ use Rattle.rules.specs.steps.Given.{Given}
 use Rattle.rules.specs.history.History.{History, note, noteOk, noteValue, noteCommit, noteAbort, doing, ended, noteReply}
 use Rattle.rules.specs.demand.Judge.{askedByHistory, judgement}
 use Rattle.rules.proofs.steps.Given.{Verdict, verdict}
-use Rattle.rules.proofs.demand.Admitted.{judged-refused, judged-free}
+use Rattle.rules.proofs.demand.Judged.{judged-refused, judged-free}
 use Rattle.rules.proofs.history.Alike.{length-same}
 use Rattle.rules.proofs.steps.Numbers.{refusals-apart}
 use Rattle.rules.proofs.demand.ThirdDemand.{note-refused}
