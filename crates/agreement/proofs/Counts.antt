@@ -79,7 +79,7 @@ module _ {words : List ℕ} (ledger : Ledger words) (i code v : ℕ) where
   reply-counts = reply-cases ledger i code
       (λ reply. length (noteReply (historyIn words) i (kindOf code) v reply .commits) ≡ counted (length (historyIn words .commits)) reply)
       (λ refusal. ap (λ h. length (h .commits)) (note-refused (historyIn words) i (kindOf code) v refusal))
-      (λ s free room. rw (free .placed .heard .known) (note-counts (historyIn words) i s v _))
+      (λ s free room. rw (free .fits .heard .known) (note-counts (historyIn words) i s v _))
 
   -- and so has the judge.
   pub judge-counts : commitsNoted (noteWords words i (kindOf code) v (judgedReply words i code))

@@ -47,7 +47,7 @@ fn attempt(words: &mut [u32], m: usize, i: usize) -> Outcome
     Outcome::Committed
 }
 
-// TakesNoted the step, and notes what it comes to. A code that stands for no step is never asked for here.
+// Takes the step, and notes what it comes to. A code that stands for no step is never asked for here.
 fn take(words: &mut [u32], m: usize, i: usize, kind: Kind, value: u32) -> Outcome
     requires { ⌜ ((s : Step) × (kindIs kind ≡ known s) × Able (now words) m i s) ⌝ }
     ensures { λ r. ⌜ ((s : Step) → kindIs kind ≡ known s → TakesNoted (now (words .entry)) i s value (outcomeIs r) (now (words .exit))) ⌝ }
@@ -67,7 +67,7 @@ fn take(words: &mut [u32], m: usize, i: usize, kind: Kind, value: u32) -> Outcom
     }
 }
 
-// TakesNoted a step that no check refuses, unless it would be a 65th commit.
+// Takes a step that no check refuses, unless it would be a 65th commit.
 pub fn pass(words: &mut [u32], handler: u32, code: u32, kind: Kind, value: u32) -> Answer
     requires { ⌜ ((s : Step) × (kindIs kind ≡ known s) × JudgeReady (now words) (cellsOf (now words)) handler s) ⌝ }
     ensures { λ r. ⌜ ((s : Step) → kindIs kind ≡ known s

@@ -54,12 +54,12 @@ module _ {m n : ℕ} {body : List ℕ} (standing : WholeBody m n body) (handler 
   pub body-ready : firstHit (stepChecks here) ≡ none → (s : Step) × (kindOf code ≡ known s) × Ready m n body handler s
   body-ready e =
       let (s, free) = free-exactly here .0 e in
-      let inside = free .placed .heard .handler in (
+      let inside = free .fits .heard .handler in (
         s,
-        free .placed .heard .known,
+        free .fits .heard .known,
         record {
           seated = record { formed = standing .formed; handler = inside; low = omega (arith, standing .most) };
-          cell = free .placed .cell;
+          cell = free .fits .cell;
           phase = phased m n handler body (standing .phases) s inside (free .phase);
         },
       )
@@ -73,7 +73,7 @@ module _ {m n : ℕ} {body : List ℕ} (standing : WholeBody m n body) (handler 
       let (s, free) = free-exactly here .0 e in
       let turn : bodyTurn m n body handler code value ≡ takenTurn (wordSetting m) (view m n body) handler code value s
       = free-turn _ _ _ _ _ _ value s free in
-      let taken = takes s (free .placed .heard .known) in
+      let taken = takes s (free .fits .heard .known) in
       record {
         replied = ap (λ o. reported (record { handler = handler; code = code; outcome = o })) (taken .replied) ∙ rw turn;
         left = taken .left ∙ rw turn;
