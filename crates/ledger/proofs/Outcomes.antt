@@ -115,7 +115,7 @@ module _ {words : List ℕ} (ledger : Ledger words) {i : ℕ} (seat : i < handle
   pub outcome-noted : (s : Step) (v : ℕ) (outcome : Outcome ℕ) → Within (cellsOf words) s → h .opened i ≡ phaseFor s
       → (isCommit outcome ≡ true → commitsNoted words < mostCommits)
       → SameHistory S (note h i s v outcome) (historyIn (noteOutcome words i s v outcome))
-  unfolding note noteOk noteValue noteOutcome Rules.noteCommitRow ended
+  unfolding note noteOk noteValue noteOutcome Rules.noteCommit ended
   outcome-noted begin v ok inside phase room = begin-noted
   outcome-noted (write x) v ok inside phase room = write-is-noted phase x v inside
   outcome-noted (read x) v ok inside phase room = history-refl
