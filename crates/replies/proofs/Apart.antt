@@ -2,6 +2,7 @@
 use Prim.Native.Nat.{ℕ}
 use mathlib.Core.Path.{_≡_, refl, ap}
 use Rattle.rules.specs.steps.Replies as Rules
+use Rattle.rules.proofs.Determined.{Determined, determined}
 use Rattle.rules.proofs.steps.Numbers.{Injective, read-back}
 use Rattle.replies.specs.declared.Reason.{Reason}
 use Rattle.replies.specs.declared.Reason.the-variants.{Torn, Overtaken, Spent}
@@ -102,3 +103,13 @@ answers-apart = read-back replyIs answerBack answer-same
 -- Different answers to an opening differ in the rules.
 pub openings-apart : Injective openingIs
 openings-apart = read-back openingIs openedBack opened-same
+
+-- ── One outcome ───────────────────────────────────────────────────────
+
+-- Whatever answers a step, its promise allows one answer, and one thing left.
+pub answer-determined : Determined replyIs
+answer-determined = determined answers-apart
+
+-- Whatever is opened, its promise allows one answer, and one thing left.
+pub opened-determined : Determined openingIs
+opened-determined = determined openings-apart
