@@ -1,6 +1,6 @@
 -- Any two outcomes that a promise of the register allows are equal: the very answer, and every word.
 use Prim.Native.Nat.{ℕ}
-use mathlib.Core.Path.{_≡_, refl}
+use mathlib.Core.Path.{_≡_, refl, sym, _∙_}
 use mathlib.Core.List.{List}
 use mathlib.Core.Option.{Option, none, some}
 use Rattle.rules.proofs.steps.Numbers.{Injective, read-back}
@@ -10,11 +10,14 @@ use Rattle.promises.specs.Stepping.{StepPromise}
 use Rattle.promises.proofs.Tight.{opening-determined, step-determined, length-determined}
 use Rattle.replies.specs.declared.Answer.{Answer}
 use Rattle.replies.specs.declared.Opened.{Opened}
+use Rattle.replies.specs.declared.End.{End}
 use Rattle.replies.specs.Meaning.{replyIs, openingIs}
-use Rattle.replies.proofs.Apart.{answers-apart, openings-apart}
+use Rattle.replies.specs.Ends.{endIs}
+use Rattle.replies.proofs.Apart.{answers-apart, openings-apart, ends-apart}
 use Rattle.register.specs.declared.Needed.{Needed}
 use Rattle.register.specs.declared.Needed.the-variants.{Words, Nothing}
 use Rattle.register.specs.Meaning.{neededIs}
+use Rattle.register.specs.Ending.{EndPromise}
 
 neededBack : Option ℕ → Needed
 neededBack (some k) = Words k
@@ -43,3 +46,7 @@ module _ {words : List ℕ} where
   pub answer-determined : {handler code value : ℕ} {a b : Answer} {after other : List ℕ}
       → StepPromise words handler code value (replyIs a) after → StepPromise words handler code value (replyIs b) other → (a ≡ b) × (after ≡ other)
   answer-determined p q = let same = step-determined p q in (answers-apart _ _ (same .0), same .1)
+
+  -- A cell has one end.
+  pub end-determined : {c : ℕ} {a b : End} → EndPromise words c (endIs a) → EndPromise words c (endIs b) → a ≡ b
+  end-determined p q = ends-apart _ _ (p .replied ∙ sym (q .replied))
