@@ -69,8 +69,9 @@ pub fn cell_end(words: &[u32], c: u32) -> End
     }
     let x = c as usize;
     let count = words[2] as usize;
+    let version = answers::present_version(words, x, count);
     End::Cell {
         value: answers::present_value(words, x, count),
-        number: answers::versions_of(words, x, count),
+        number: version.number,
     }
 }

@@ -1,9 +1,10 @@
-// A run of a schedule file on standard output, the same whoever answers its steps: a header, a line for each order place, then each
-// cell. A line is put together in a buffer and written by one call.
+// A run of the schedule file on standard input, the same whoever answers its steps: a header, a line for each order place, then each
+// cell, on standard output. A line is put together in a buffer and written by one call.
 // PUBLIC: nothing that is offered has a `requires`. Nothing is answered and nothing lent, so there is no promise beside that each
 // function ends.
 ghost use Prim.Native.Nat.{_≤_};
 ghost use lib.ListN.{length};
+use libc::STDIN_FILENO;
 use libc::STDOUT_FILENO;
 use replies::Answer;
 use replies::End;
@@ -210,10 +211,18 @@ fn show_run(player: Player, file: &[u8], words: &mut [u32], handlers: u32, cells
     }
 }
 
-// Runs a file with a player on words that are lent to it; a refused file is one line.
-pub fn run_file(player: Player, file: &[u8], words: &mut [u32]) {
+// Runs a file with a player; a refused file is one line.
+fn run_file(player: Player, file: &[u8], words: &mut [u32]) {
     match schedule::admit_file(file) {
         Admitted::Sound { handlers, cells } => show_run(player, file, words, handlers, cells),
         Admitted::Rejected(refusal) => print_refused(refusal),
     }
+}
+
+// Runs the file on standard input with a player, on words that are lent to it. One byte more than a file may have is read, so that a
+// file that is too long is noticed.
+pub fn run_input(player: Player, words: &mut [u32]) {
+    let mut buffer = io::large_buffer();
+    let count = io::read_full(STDIN_FILENO, &mut buffer);
+    run_file(player, &buffer[..count], words);
 }

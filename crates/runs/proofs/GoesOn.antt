@@ -4,6 +4,7 @@ use mathlib.Core.Path.{_≡_, refl, subst}
 use mathlib.Core.Bool.{false}
 use mathlib.Core.List.{List}
 use mathlib.Core.Logic.{inl, inr}
+use mathlib.Core.Option.{Option, none, some}
 use lib.Dec.{eqb}
 use borrow.Author.Tests.{ne-eqb}
 use Rattle.rules.specs.steps.Replies.{Refusal, tooManyCommits, refusalNumber}
@@ -15,8 +16,9 @@ use Rattle.rules.proofs.steps.Turns.{given-turn, free-turn}
 use Rattle.promises.specs.Stepping.{askedOf, turnOf}
 use Rattle.schedule.specs.Scripts.{ScriptStep}
 use Rattle.schedule.specs.Taking.{Cursors, Next, rejected, over, refused, taken, nextOf, cursorsAfter}
+use Rattle.runs.specs.Lines.{Line}
 use Rattle.runs.specs.Players.{theRegister}
-use Rattle.runs.specs.ByPlaces.{lineFor, wordsFor, placesFrom}
+use Rattle.runs.specs.ByPlaces.{inFront, lineFor, wordsFor, placesFrom}
 use Rattle.runs.specs.Stopping.{saysTooMany, stopsAt, everStops}
 use Rattle.runs.specs.RunOfPlaces.{RegisterGoesOn}
 
@@ -42,8 +44,18 @@ place-goes-on words place over = refl
 place-goes-on words place (refused handler refusal) = refl
 place-goes-on words place (taken handler step) = register-other words handler step
 
--- and no stretch of places does.
+-- and with a line in front that does not stop, others still do not:
+front-goes-on : (line : Option Line) (lines : List Line) → stopsAt line ≡ false → everStops lines ≡ false
+    → everStops (inFront line lines) ≡ false
+unfolding everStops
+front-goes-on none lines here later = later
+front-goes-on (some line) lines here later = rw here later
+
+-- the register stops nowhere.
 pub register-goes-on : RegisterGoesOn
 unfolding placesFrom everStops
 register-goes-on file zero cursors place words = refl
-register-goes-on file (suc count) cursors place words = ?
+register-goes-on file (suc count) cursors place words =
+    let next = nextOf file cursors place in
+    let later = register-goes-on file count (cursorsAfter cursors next) (place + 1) (wordsFor theRegister words next) in
+    front-goes-on (lineFor theRegister words place next) _ (place-goes-on words place next) later

@@ -1,36 +1,58 @@
--- What comes next at a place, and what the place then shows and leaves, whoever answers its steps.
+-- What a place shows and leaves, by what comes next there, whoever answers its steps.
 use Prim.Native.Nat.{ℕ}
-use mathlib.Core.Path.{_≡_, sym, ap, _∙_}
+use mathlib.Core.Path.{_≡_, refl, sym, ap, _∙_, subst}
 use mathlib.Core.List.{List}
-use mathlib.Core.Option.{Option, some}
-use Rattle.rules.specs.steps.Replies.{Reply}
+use mathlib.Core.Option.{some}
+use Rattle.rules.specs.steps.Replies as Rules
+use Rattle.replies.specs.declared.Answer.{Answer}
+use Rattle.replies.specs.declared.Refusal.{Refusal}
+use Rattle.replies.specs.Meaning.{refusalIs, replyIs}
 use Rattle.schedule.specs.declared.Next.{Next}
-use Rattle.schedule.specs.declared.Next.the-variants.{Taken}
 use Rattle.schedule.specs.Meaning.{nextIs}
-use Rattle.schedule.specs.Taking.{Cursors, NextPromise}
-use Rattle.runs.specs.Lines.{Line, stepLine}
+use Rattle.schedule.specs.Taking.{Cursors, rejected, over, refused, taken, NextPromise}
+use Rattle.runs.specs.declared.Shown.{Shown}
+use Rattle.runs.specs.declared.Shown.the-variants.{Nothing, NoStep, Asked}
+use Rattle.runs.specs.Lines.{stepLine, lineIs}
 use Rattle.runs.specs.Players.{Player, PlayerStepPromise}
-use Rattle.runs.specs.ByPlaces.{lineFor, wordsFor, PlacePromise}
+use Rattle.runs.specs.ByPlaces.{lineFor, wordsFor, NextShown, PlacePromise}
 
-module _ {player : Player} where
-  -- A place shows the line, and leaves the words, of what comes next there.
-  pub place-shows : {file words wordsLeft : List ℕ} {cursors after : Cursors} {place : ℕ} {next known : Next} {line : Option Line}
-      → NextPromise file cursors place (nextIs next) after → next ≡ known
-      → line ≡ lineFor player words place (nextIs known) → wordsLeft ≡ wordsFor player words (nextIs known)
-      → PlacePromise player file cursors place words line after wordsLeft
-  place-shows {words = words} {place = place} promise is line left =
-      let same = ap nextIs (sym is) ∙ promise .replied in
-      record {
-        shown = line ∙ ap (lineFor player words place) same;
-        used = promise .left;
-        left = left ∙ ap (wordsFor player words) same;
-      }
+module _ {player : Player} {words : List ℕ} where
+  -- What is shown of what comes next is shown by any name of it.
+  pub shown-as : {next known : Next} {shown : Shown} {after : List ℕ} → next ≡ known
+      → NextShown player words (nextIs known) shown after → NextShown player words (nextIs next) shown after
+  shown-as {shown = shown} {after} is = subst (λ next. NextShown player words (nextIs next) shown after) (sym is)
 
-  -- A step that is asked shows the reply to it, and leaves the words afterwards.
-  pub asked-shows : {file words wordsLeft : List ℕ} {cursors after : Cursors} {place handler code value : ℕ} {next : Next} {reply : Reply ℕ}
-      → NextPromise file cursors place (nextIs next) after → next ≡ Taken handler code value
-      → PlayerStepPromise player words handler code value reply wordsLeft
-      → PlacePromise player file cursors place words (some (stepLine place handler code reply)) after wordsLeft
+  -- A file that is refused shows nothing,
+  pub rejected-shown : {refusal : Rules.Refusal} → NextShown player words (rejected refusal) Nothing words
   unfolding lineFor wordsFor
-  asked-shows {place = place} {handler} {code} promise is answer =
-      place-shows promise is (ap (λ reply. some (stepLine place handler code reply)) (answer .replied)) (answer .left)
+  rejected-shown = record { line = λ place. refl; left = refl }
+
+  -- nor does a place beyond the order,
+  pub over-shown : NextShown player words over Nothing words
+  unfolding lineFor wordsFor
+  over-shown = record { line = λ place. refl; left = refl }
+
+  -- a refusal shows itself,
+  pub refused-shown : {handler : ℕ} {refusal : Refusal} → NextShown player words (refused handler (refusalIs refusal)) (NoStep handler refusal) words
+  unfolding lineFor wordsFor
+  refused-shown = record { line = λ place. refl; left = refl }
+
+  -- and a step that is asked shows the reply to it.
+  pub asked-shown : {handler code value : ℕ} {answer : Answer} {after : List ℕ}
+      → PlayerStepPromise player words handler code value (replyIs answer) after
+      → NextShown player words (taken handler (record { code = code; value = value })) (Asked handler code answer) after
+  unfolding lineFor wordsFor
+  asked-shown {handler} {code} promise = record {
+    line = λ place. ap (λ reply. some (stepLine place handler code reply)) (promise .replied);
+    left = promise .left;
+  }
+
+  -- A place shows what comes next there.
+  pub place-shows : {file after : List ℕ} {cursors used : Cursors} {place : ℕ} {next : Next} {shown : Shown}
+      → NextPromise file cursors place (nextIs next) used → NextShown player words (nextIs next) shown after
+      → PlacePromise player file cursors place words (lineIs place shown) used after
+  place-shows {place = place} promise next = record {
+    shown = next .line place ∙ ap (lineFor player words place) (promise .replied);
+    used = promise .left;
+    left = next .left ∙ ap (wordsFor player words) (promise .replied);
+  }

@@ -5,7 +5,8 @@ use mathlib.Core.Path.{_≡_}
 use mathlib.Core.List.{List, [], _∷_}
 use mathlib.Core.Option.{Option, none, some}
 use Rattle.schedule.specs.Taking.{Cursors, Next, rejected, over, refused, taken, nextOf, cursorsAfter}
-use Rattle.runs.specs.Lines.{Line, noStep, stepLine}
+use Rattle.runs.specs.declared.Shown.{Shown}
+use Rattle.runs.specs.Lines.{Line, noStep, stepLine, lineIs}
 use Rattle.runs.specs.Players.{Player}
 
 -- Lines, and the words at the end.
@@ -40,6 +41,11 @@ module _ (player : Player) where
       let next = nextOf file cursors place in
       let rest = placesFrom file count (cursorsAfter cursors next) (place + 1) (wordsFor words next) in
       record { lines = inFront (lineFor words place next) (rest .lines); words = rest .words }
+
+-- What the function inside this crate says of what comes next: the line that is shown, wherever the place, and the words afterwards.
+pub record NextShown (player : Player) (words : List ℕ) (next : Next) (shown : Shown) (after : List ℕ) : Type 0 where
+  pub line : (place : ℕ) → lineIs place shown ≡ lineFor player words place next
+  pub left : after ≡ wordsFor player words next
 
 -- The promise of one order place on cursors and a player's words: the line, and the cursors and words that it leaves.
 pub record PlacePromise (player : Player) (file : List ℕ) (cursors : Cursors) (place : ℕ) (words : List ℕ)

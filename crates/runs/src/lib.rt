@@ -3,9 +3,10 @@
 ghost use mathlib.Core.Path.{_≡_};
 ghost use Rattle.replies.specs.Meaning.{replyIs, openingIs};
 ghost use Rattle.replies.specs.Ends.{endIs};
+ghost use Rattle.schedule.specs.Meaning.{nextIs};
 ghost use Rattle.runs.specs.Lines.{lineIs};
 ghost use Rattle.runs.specs.Players.{playerIs, PlayerOpeningPromise, PlayerStepPromise, PlayerEndPromise};
-ghost use Rattle.runs.specs.ByPlaces.{PlacePromise};
+ghost use Rattle.runs.specs.ByPlaces.{NextShown, PlacePromise};
 ghost use Rattle.runs.specs.Stopping.{saysTooMany, StopPromise};
 use replies::Answer;
 use replies::End;
@@ -70,42 +71,46 @@ pub fn cell_end(player: Player, words: &[u32], c: u32) -> End
     }
 }
 
-// Plays one order place of a file: the step that it names is asked of the player.
-pub fn play_place(player: Player, file: &[u8], cursors: Cursors, place: usize, words: &mut [u32]) -> Placed
-    ensures { λ r. ⌜ PlacePromise (playerIs player) (now (file .entry)) (cursors .at) place (now (words .entry))
-        (lineIs place (r .shown)) (r .cursors .at) (now (words .exit)) ⌝ }
+// Shows what comes next at a place: a step is asked of the player.
+fn show_next(player: Player, next: Next, words: &mut [u32]) -> Shown
+    ensures { λ r. ⌜ NextShown (playerIs player) (now (words .entry)) (nextIs next) r (now (words .exit)) ⌝ }
 {
-    let found = schedule::next_step(file, cursors, place);
-    let after = found.cursors;
-    let next = found.next;
     match next {
-        Next::Rejected(_) => Placed {
-            shown: Shown::Nothing,
-            cursors: after,
-        },
-        Next::Over => Placed {
-            shown: Shown::Nothing,
-            cursors: after,
-        },
-        Next::Refused { handler, refusal } => Placed {
-            shown: Shown::NoStep { handler, refusal },
-            cursors: after,
-        },
+        Next::Rejected(_) => Shown::Nothing,
+        Next::Over => Shown::Nothing,
+        Next::Refused { handler, refusal } => Shown::NoStep { handler, refusal },
         Next::Taken {
             handler,
             code,
             value,
         } => {
             let answer = step(player, words, handler, code, value);
-            Placed {
-                shown: Shown::Asked {
-                    handler,
-                    code,
-                    answer,
-                },
-                cursors: after,
+            Shown::Asked {
+                handler,
+                code,
+                answer,
             }
         }
+    }
+}
+
+// Plays one order place of a file: the step that it names is asked of the player.
+pub fn play_place(
+    player: Player,
+    file: &[u8],
+    cursors: Cursors,
+    place: usize,
+    words: &mut [u32],
+) -> Placed
+    ensures { λ r. ⌜ PlacePromise (playerIs player) (now (file .entry)) (cursors .at) place (now (words .entry))
+        (lineIs place (r .shown)) (r .cursors .at) (now (words .exit)) ⌝ }
+{
+    let found = schedule::next_step(file, cursors, place);
+    let next = found.next;
+    let after = found.cursors;
+    Placed {
+        shown: show_next(player, next, words),
+        cursors: after,
     }
 }
 
