@@ -13,7 +13,7 @@ use Rattle.rules.specs.demand.Demand.{Ask}
 use Rattle.rules.specs.demand.Judge.{judgement}
 use Rattle.layout.specs.View.{wordSetting}
 use Rattle.promises.specs.Stepping.{StepPromise}
-use Rattle.promises.specs.Runs.{Stretch, stepped}
+use Rattle.promises.specs.Runs.{WordRun, stepped}
 use Rattle.promises.proofs.Inherits.{words-inherit}
 use Rattle.ledger.specs.Entries.{commitsNoted, mostCommits}
 use Rattle.ledger.specs.Promises.{reportsCommit, limited}
@@ -21,16 +21,14 @@ use Rattle.ledger.proofs.Steps.{limited-other}
 use Rattle.ledger.proofs.Histories.{Says}
 use Rattle.ledger.proofs.Runs.{says-reply, says-after}
 use Rattle.schedule.specs.Scripts.{ScriptStep}
-use Rattle.schedule.specs.Lines.{theRegister}
-use Rattle.judging.specs.Player.{theJudge}
-use Rattle.judging.specs.Stopping.{saysTooMany}
-use Rattle.agreement.proofs.Counts.{told-other, counted, judge-counts}
+use Rattle.runs.specs.Players.{theRegister, theJudge}
+use Rattle.agreement.proofs.Counts.{counted, judge-counts}
 
 -- The register's words after a run of m cells and n handlers, and a ledger of as many that says the run's history.
 pub record Beside (m n : ℕ) (words ledger : List ℕ) : Type 0 where
   pub asks : List (Ask ℕ)
   pub history : History ℕ
-  pub run : Stretch m n asks words history
+  pub run : WordRun m n asks words history
   pub says : Says m n ledger history
 
 -- The judge has room for so many commits.
@@ -49,10 +47,6 @@ module _ {m n : ℕ} {words ledger : List ℕ} (beside : Beside m n words ledger
   -- The register's reply is what the history tells,
   told : reply ≡ judgement (wordSetting m) n (beside .history) i (step .code)
   told = words-inherit m n (beside .asks) words (beside .history) (beside .run) .replies promise
-
-  -- which is never 33,
-  pub register-other : saysTooMany reply ≡ false
-  register-other = rw told (told-other (wordSetting m) n (beside .history) i (step .code))
 
   -- and the judge's is the same within the limit.
   within : theJudge .reply ledger i step ≡ limited (commitsNoted ledger) reply

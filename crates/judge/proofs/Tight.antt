@@ -5,10 +5,9 @@ use mathlib.Core.List.{List}
 use Rattle.replies.specs.declared.Answer.{Answer}
 use Rattle.replies.specs.declared.Opened.{Opened}
 use Rattle.replies.specs.Meaning.{replyIs, openingIs}
-use Rattle.replies.proofs.Apart.{answers-apart, openings-apart}
-use Rattle.schedule.specs.Shown.{endIs}
-use Rattle.schedule.specs.declared.End.{End}
-use Rattle.schedule.proofs.ShownApart.{ends-apart}
+use Rattle.replies.proofs.Apart.{answers-apart, openings-apart, ends-apart}
+use Rattle.replies.specs.Ends.{endIs}
+use Rattle.replies.specs.declared.End.{End}
 use Rattle.ledger.specs.Promises.{LedgerPromise, JudgedPromise}
 use Rattle.ledger.proofs.Tight.{ledger-determined, judge-determined}
 use Rattle.judge.specs.Ending.{JudgedEndPromise}

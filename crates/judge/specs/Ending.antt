@@ -11,7 +11,7 @@ use Rattle.rules.specs.history.Replay.{replay}
 use Rattle.rules.specs.demand.Judge.{versionCount}
 use Rattle.layout.specs.Places.{cellsOf}
 use Rattle.layout.specs.View.{wordSetting}
-use Rattle.schedule.specs.Shown.{CellLine}
+use Rattle.replies.specs.Ends.{CellLine}
 use Rattle.ledger.specs.Entries.{isLedger}
 use Rattle.ledger.specs.Histories.{historyIn}
 

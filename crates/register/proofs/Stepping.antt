@@ -7,7 +7,7 @@ use mathlib.Core.Option.{none, some}
 use Rattle.rules.specs.steps.Codes.{Step, known, kindOf}
 use Rattle.rules.specs.steps.Replies.{Refusal, notWellFormed, Outcome, Reply, reported}
 use Rattle.rules.specs.steps.Checks.{firstHit, Asked, stepChecks}
-use Rattle.rules.specs.steps.Turn.{Turn, asked, refusalIs, turned, turn}
+use Rattle.rules.specs.steps.Turn.{Turn, asked, stepRefusal, turned, turn}
 use Rattle.rules.proofs.steps.Given.{given-exactly, free-exactly}
 use Rattle.rules.proofs.steps.Turns.{refusedTurn, takenTurn, given-turn, free-turn}
 use Rattle.layout.specs.Places.{cellsOf, handlersOf, bodyOf}
@@ -88,7 +88,7 @@ stands w = record { formed = record { good = w .body; few = w .range .cells }; m
 module _ (words : List ℕ) (handler code value : ℕ) where
   -- Words that are no register are refused.
   pub malformed-stops : isWellFormed words ≡ false → StepPromise words handler code value (Reply.refused notWellFormed) words
-  unfolding turnOf stepWords turn refusalIs turned firstHit stepChecks
+  unfolding turnOf stepWords turn stepRefusal turned firstHit stepChecks
   malformed-stops malformed = record { replied = rw malformed; left = rw malformed }
 
   -- What the body promises the words promise, with m and n in front.

@@ -5,15 +5,11 @@ use mathlib.Core.List.{List}
 use Rattle.schedule.specs.Admitting.{AdmissionPromise}
 use Rattle.schedule.specs.Finding.{ScriptPromise, AnswerPromise}
 use Rattle.schedule.specs.Taking.{Cursors, NextPromise}
-use Rattle.schedule.specs.Lines.{Player, PlacePromise}
-use Rattle.schedule.specs.Shown.{lineIs}
-use Rattle.schedule.specs.declared.Shown.{Shown}
 use Rattle.schedule.specs.declared.Admitted.{Admitted}
 use Rattle.schedule.specs.declared.Found.{Found}
 use Rattle.schedule.specs.declared.Next.{Next}
 use Rattle.schedule.specs.Meaning.{admissionIs, foundIs, nextIs}
 use Rattle.schedule.proofs.Apart.{admitted-apart, found-apart, nexts-apart}
-use Rattle.schedule.proofs.ShownApart.{shown-apart}
 
 module _ {file : List ℕ} where
   -- An admission has one outcome.
@@ -33,13 +29,3 @@ module _ {file : List ℕ} where
   pub next-determined : {cursors : Cursors} {place : ℕ} {a b : Next} {after other : Cursors}
       → NextPromise file cursors place (nextIs a) after → NextPromise file cursors place (nextIs b) other → (a ≡ b) × (after ≡ other)
   next-determined p q = (nexts-apart _ _ (p .replied ∙ sym (q .replied)), p .left ∙ sym (q .left))
-
-  -- A place, whatever answers its steps, shows one thing, and leaves one row of cursors and one list of words.
-  pub place-determined : {player : Player} {words : List ℕ} {cursors : Cursors} {place : ℕ} {a b : Shown} {used other : Cursors}
-      {left leftToo : List ℕ} → PlacePromise player file cursors place words (lineIs place a) used left
-      → PlacePromise player file cursors place words (lineIs place b) other leftToo → (a ≡ b) × (used ≡ other) × (left ≡ leftToo)
-  place-determined {place = place} p q = (
-    shown-apart place _ _ (p .shown ∙ sym (q .shown)),
-    p .used ∙ sym (q .used),
-    p .left ∙ sym (q .left),
-  )

@@ -1,0 +1,22 @@
+-- `runs::stops_at` meets its promise: only the answer to a step is asked.
+use mathlib.Core.Path.{sym, ap, _∙_}
+use borrow.Author.Needs.{needs}
+use Rattle.runs.specs.Lines.{lineIs}
+use Rattle.runs.specs.Stopping.{stopsAt}
+use Rattle.runs.proofs.stops_at.Statement.{statement}
+use Rattle.runs.proofs.stops_at.Tie as tie
+
+pub stops-at-spec : {M : Type 1} → statement M
+stops-at-spec =
+    tie.close
+    (tie.spec
+    (λ c. search needs)
+    (λ c κs. search needs)
+    (λ c. search needs)
+    (λ c. search needs)
+    -- a step's answer
+    (λ c. record { replied = λ place. c .is-too-many .ensures ∙ ap (λ shown. stopsAt (lineIs place shown)) (sym (c .before .before .shown .given .1)) })
+    -- nothing
+    (λ c. record { replied = λ place. ap (λ shown. stopsAt (lineIs place shown)) (sym (c .enum-told .given .1)) })
+    -- no step
+    (λ c. record { replied = λ place. ap (λ shown. stopsAt (lineIs place shown)) (sym (c .enum-told2 .given .1)) }))
