@@ -1,7 +1,7 @@
 -- What the question for a register's length promises, for all m and n.
 use Prim.Native.Nat.{ℕ}
 use mathlib.Core.Option.{Option, none, some}
-use Rattle.rules.specs.Promise.{Due, Promise}
+use Rattle.rules.specs.Promise.{Due, Promise, answering}
 use Rattle.rules.specs.steps.Tables.{if_then_else_}
 use Rattle.rules.specs.steps.Checks.{inRange}
 use Rattle.layout.specs.Places.{size}
@@ -15,9 +15,9 @@ pub record LengthCall : Type 0 where
   pub cells : ℕ
   pub handlers : ℕ
 
--- What it comes to; nothing is lent, so nothing is left.
+-- What it comes to.
 abbrev pub asksLength : LengthCall → Due (Option ℕ) Unit
-asksLength call = record { reply = lengthFor (call .cells) (call .handlers); leaves = tt }
+asksLength = answering (λ call. lengthFor (call .cells) (call .handlers))
 
 -- The promise of the length.
 abbrev pub LengthPromise : ℕ → ℕ → Option ℕ → Type 0

@@ -18,13 +18,13 @@ module _ (words : List ℕ) (c : ℕ) where
   -- Words that are no register show nothing.
   pub end-malformed : isWellFormed words ≡ false → EndPromise words c none
   unfolding endOf
-  end-malformed malformed = record { replied = rw malformed }
+  end-malformed malformed = record { replied = rw malformed; left = refl }
 
   module _ (formed : isWellFormed words ≡ true) where
     -- Nor does a cell that the register has not.
     pub end-beyond : cellsOf words ≤ c → EndPromise words c none
     unfolding endOf
-    end-beyond beyond = record { replied = rw (formed, le-ltb c (cellsOf words) beyond) }
+    end-beyond beyond = record { replied = rw (formed, le-ltb c (cellsOf words) beyond); left = refl }
 
     -- A cell of the register shows its first word, and its own number behind it.
     pub end-shown : {start : ℕ} → c < cellsOf words → start ≡ 2 + cellStart (cellsOf words) c
@@ -32,6 +32,7 @@ module _ (words : List ℕ) (c : ℕ) where
     unfolding endOf
     end-shown {start} inside starts = record {
       replied = rw (formed, lt-ltb c (cellsOf words) inside) (λ i. some (record { value = value i; number = number i }));
+      left = refl;
     }
       where
         first : ℕ

@@ -7,7 +7,6 @@ use Rattle.rules.proofs.steps.Numbers.{Injective, read-back}
 use Rattle.register.specs.declared.Needed.{Needed}
 use Rattle.register.specs.declared.Needed.the-variants.{Words, Nothing}
 use Rattle.register.specs.Meaning.{neededIs}
-use Rattle.register.specs.Ending.{EndPromise}
 
 neededBack : Option ℕ → Needed
 neededBack (some k) = Words k

@@ -131,3 +131,7 @@ answer-determined = determined answers-apart
 -- Whatever is opened, its promise allows one answer, and one thing left.
 pub opened-determined : Determined openingIs
 opened-determined = determined openings-apart
+
+-- Whatever shows a cell's end, its promise allows one.
+pub end-determined : Determined endIs
+end-determined = determined ends-apart

@@ -12,3 +12,7 @@ pub record Promise {Given Reply Left : Type 0} (operation : Given → Due Reply 
     : Type 0 where
   pub replied : reply ≡ operation given .reply
   pub left : after ≡ operation given .leaves
+
+-- An operation that is lent nothing: it replies, and nothing is left.
+abbrev pub answering : {Given Reply : Type 0} → (Given → Reply) → Given → Due Reply Unit
+answering answer given = record { reply = answer given; leaves = tt }

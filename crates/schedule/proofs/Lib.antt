@@ -7,4 +7,3 @@ pub mod Takes
 pub mod Nexts
 pub mod Apart
 pub mod Exactly
-pub mod Tight
