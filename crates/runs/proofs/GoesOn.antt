@@ -1,6 +1,6 @@
 -- The register stops nowhere: the rules give no step 33.
 use Prim.Native.Nat.{ℕ, zero, suc, _+_}
-use mathlib.Core.Path.{_≡_, refl, subst}
+use mathlib.Core.Path.{_≡_, refl, ap, _∙_, subst}
 use mathlib.Core.Bool.{false}
 use mathlib.Core.List.{List}
 use mathlib.Core.Logic.{inl, inr}
@@ -10,9 +10,11 @@ use borrow.Author.Tests.{ne-eqb}
 use Rattle.rules.specs.steps.Replies.{Refusal, tooManyCommits, refusalNumber}
 use Rattle.rules.specs.steps.Checks.{Asked}
 use Rattle.rules.specs.steps.Given.{Given}
+use Rattle.rules.specs.steps.Turn.{Turn}
 use Rattle.rules.proofs.steps.Numbers.{refusals-apart}
 use Rattle.rules.proofs.steps.Given.{Verdict, verdict}
-use Rattle.rules.proofs.steps.Turns.{given-turn, free-turn}
+use Rattle.rules.proofs.steps.Turns.{refusedTurn, takenTurn, given-turn, free-turn}
+use Rattle.layout.specs.View.{viewed}
 use Rattle.promises.specs.Stepping.{askedOf, turnOf}
 use Rattle.schedule.specs.Scripts.{ScriptStep}
 use Rattle.schedule.specs.Taking.{Cursors, Next, rejected, over, refused, taken, nextOf, cursorsAfter}
@@ -33,8 +35,14 @@ unfolding turnOf
 register-other words handler step = ways (verdict (askedOf words handler (step .code)))
   where
     ways : Verdict (askedOf words handler (step .code)) → saysTooMany (theRegister .reply words handler step) ≡ false
-    ways (inl (refusal, given)) = rw (given-turn _ _ _ _ handler (step .code) (step .value) refusal given) (given-other _ refusal given)
-    ways (inr (s, free)) = rw (free-turn _ _ _ _ handler (step .code) (step .value) s free)
+    ways (inl (refusal, given)) =
+        let turned : turnOf words handler (step .code) (step .value) ≡ refusedTurn (viewed words) refusal
+        = given-turn _ _ _ _ _ _ (step .value) refusal given in
+        ap (λ (t : Turn ℕ). saysTooMany (t .reply)) turned ∙ given-other _ refusal given
+    ways (inr (s, free)) =
+        let turned : turnOf words handler (step .code) (step .value) ≡ takenTurn _ (viewed words) handler (step .code) (step .value) s
+        = free-turn _ _ _ _ _ _ (step .value) s free in
+        ap (λ (t : Turn ℕ). saysTooMany (t .reply)) turned
 
 -- no place shows a line at which a run stops,
 place-goes-on : (words : List ℕ) (place : ℕ) (next : Next) → stopsAt (lineFor theRegister words place next) ≡ false

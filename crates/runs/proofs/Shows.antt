@@ -9,6 +9,7 @@ use Rattle.replies.specs.declared.Refusal.{Refusal}
 use Rattle.replies.specs.Meaning.{refusalIs, replyIs}
 use Rattle.schedule.specs.declared.Next.{Next}
 use Rattle.schedule.specs.Meaning.{nextIs}
+use Rattle.schedule.specs.Taking as Taking
 use Rattle.schedule.specs.Taking.{Cursors, rejected, over, refused, taken, NextPromise}
 use Rattle.runs.specs.declared.Shown.{Shown}
 use Rattle.runs.specs.declared.Shown.the-variants.{Nothing, NoStep, Asked}
@@ -48,8 +49,8 @@ module _ {player : Player} {words : List ℕ} where
   }
 
   -- A place shows what comes next there.
-  pub place-shows : {file after : List ℕ} {cursors used : Cursors} {place : ℕ} {next : Next} {shown : Shown}
-      → NextPromise file cursors place (nextIs next) used → NextShown player words (nextIs next) shown after
+  pub place-shows : {file after : List ℕ} {cursors used : Cursors} {place : ℕ} {next : Taking.Next} {shown : Shown}
+      → NextPromise file cursors place next used → NextShown player words next shown after
       → PlacePromise player file cursors place words (lineIs place shown) used after
   place-shows {place = place} promise next = record {
     shown = next .line place ∙ ap (lineFor player words place) (promise .replied);
