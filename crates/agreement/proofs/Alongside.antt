@@ -11,7 +11,7 @@ use Rattle.ledger.specs.Promises.{reportsCommit}
 use Rattle.schedule.specs.Scripts.{ScriptStep}
 use Rattle.schedule.specs.Taking.{Cursors, Next, rejected, over, refused, taken, nextOf, cursorsAfter}
 use Rattle.runs.specs.Lines.{Line, noStep, stepLine}
-use Rattle.runs.specs.Players.{theRegister, theJudge}
+use Rattle.runs.specs.Players.{theRegister, theJudge, replyBy}
 use Rattle.runs.specs.ByPlaces.{Stretch, inFront, lineFor, wordsFor, placesFrom}
 use Rattle.runs.specs.Stopping.{stops, everStops}
 use Rattle.runs.proofs.GoesOn.{register-other}
@@ -72,7 +72,7 @@ module _ {m n : ℕ} {words ledger : List ℕ} (beside : Beside m n words ledger
   module _ (handler : ℕ) (step : ScriptStep) where
     -- What the register replies to a step,
     abbrev reply : Reply ℕ
-    reply = theRegister .reply words handler step
+    reply = replyBy theRegister words handler step
 
     -- and the line that it shows.
     abbrev line : Line
@@ -101,7 +101,7 @@ module _ {m n : ℕ} {words ledger : List ℕ} (beside : Beside m n words ledger
   place-alongside (rejected refusal) room has later = later room beside has
   place-alongside over room has later = later room beside has
   place-alongside (refused handler refusal) room has later = other-front (noStep place handler refusal) refl refl (later room beside has)
-  place-alongside (taken handler step) room has later = by (reportsCommit (theRegister .reply words handler step))
+  place-alongside (taken handler step) room has later = by (reportsCommit (replyBy theRegister words handler step))
       (λ reports. commit-alongside handler step room has reports later)
       (λ reports. other-alongside handler step room has reports later)
 

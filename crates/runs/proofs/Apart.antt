@@ -2,6 +2,7 @@
 use Prim.Native.Nat.{ℕ}
 use mathlib.Core.Path.{_≡_, refl, ap}
 use mathlib.Core.Option.{Option, none, some}
+use Rattle.rules.proofs.Determined.{Determined, determined}
 use Rattle.rules.proofs.steps.Numbers.{Injective, read-back}
 use Rattle.replies.specs.declared.Answer.{Answer}
 use Rattle.replies.specs.declared.Answer.the-variants.{Reported, Refused}
@@ -11,6 +12,7 @@ use Rattle.replies.proofs.Apart.{answerBack, answer-same}
 use Rattle.runs.specs.declared.Shown.{Shown}
 use Rattle.runs.specs.declared.Shown.the-variants.{Nothing, NoStep, Asked}
 use Rattle.runs.specs.Lines.{Line, lineIs}
+use Rattle.runs.specs.Stopping.{stopsAt, stopsShown}
 
 -- The refusal of an answer; any other where it is none.
 refusalIn : Answer → Refusal
@@ -35,3 +37,17 @@ shown-same place (Asked handler code answer) = ap (Asked handler code) (answer-s
 -- Different things shown at a place are different lines, or one is none.
 pub shown-apart : (place : ℕ) → Injective (lineIs place)
 shown-apart place = read-back (lineIs place) shownBack (shown-same place)
+
+-- ── One outcome ───────────────────────────────────────────────────────
+
+-- A place shows one thing, and leaves one row of cursors and one list of words.
+pub place-determined : (place : ℕ) → Determined (lineIs place)
+place-determined place = determined (shown-apart place)
+
+-- ── Stopping ──────────────────────────────────────────────────────────
+
+-- Whether a run stops at what is shown is the same at every place.
+pub stops-anywhere : (place : ℕ) (shown : Shown) → stopsAt (lineIs place shown) ≡ stopsShown shown
+stops-anywhere place Nothing = refl
+stops-anywhere place (NoStep handler refusal) = refl
+stops-anywhere place (Asked handler code answer) = refl

@@ -6,12 +6,10 @@ use mathlib.Core.List.{List}
 use mathlib.Core.Logic.{inl, inr}
 use mathlib.Core.Option.{Option, none, some}
 use lib.Dec.{eqb}
-use borrow.Author.Tests.{ne-eqb}
-use Rattle.rules.specs.steps.Replies.{Refusal, tooManyCommits, refusalNumber}
+use Rattle.rules.specs.steps.Replies.{Refusal, refusalNumber}
 use Rattle.rules.specs.steps.Checks.{Asked}
-use Rattle.rules.specs.steps.Given.{Given}
+use Rattle.rules.specs.steps.Given.{Given, malformed, unlisted, unseated, outside, twice, early}
 use Rattle.rules.specs.steps.Turn.{Turn}
-use Rattle.rules.proofs.steps.Numbers.{refusals-apart}
 use Rattle.rules.proofs.steps.Given.{Verdict, verdict}
 use Rattle.rules.proofs.steps.Turns.{refusedTurn, takenTurn, given-turn, free-turn}
 use Rattle.layout.specs.View.{viewed}
@@ -19,22 +17,26 @@ use Rattle.promises.specs.Stepping.{askedOf, turnOf}
 use Rattle.schedule.specs.Scripts.{ScriptStep}
 use Rattle.schedule.specs.Taking.{Cursors, Next, rejected, over, refused, taken, nextOf, cursorsAfter}
 use Rattle.runs.specs.Lines.{Line}
-use Rattle.runs.specs.Players.{theRegister}
+use Rattle.runs.specs.Players.{theRegister, replyBy}
 use Rattle.runs.specs.ByPlaces.{inFront, lineFor, wordsFor, placesFrom}
 use Rattle.runs.specs.Stopping.{saysTooMany, stopsAt, everStops}
 use Rattle.runs.specs.RunOfPlaces.{RegisterGoesOn}
 
 -- No step is given 33,
-given-other : (a : Asked) (refusal : Refusal) → Given refusal a → eqb (refusalNumber refusal) 33 ≡ false
-given-other a refusal given =
-    ne-eqb (refusalNumber refusal) 33 (λ same. subst (λ other. Given other a) (refusals-apart refusal tooManyCommits same) given)
+given-other : (a : Asked) (refusal : Refusal) → Given a refusal → eqb (refusalNumber refusal) 33 ≡ false
+given-other a _ (malformed e) = refl
+given-other a _ (unlisted e k) = refl
+given-other a _ (unseated s e k l) = refl
+given-other a _ (outside s h b) = refl
+given-other a _ (twice f o) = refl
+given-other a _ (early s f l o) = refl
 
 -- so the register's reply is never 33, whatever its words,
-pub register-other : (words : List ℕ) (handler : ℕ) (step : ScriptStep) → saysTooMany (theRegister .reply words handler step) ≡ false
+pub register-other : (words : List ℕ) (handler : ℕ) (step : ScriptStep) → saysTooMany (replyBy theRegister words handler step) ≡ false
 unfolding turnOf
 register-other words handler step = ways (verdict (askedOf words handler (step .code)))
   where
-    ways : Verdict (askedOf words handler (step .code)) → saysTooMany (theRegister .reply words handler step) ≡ false
+    ways : Verdict (askedOf words handler (step .code)) → saysTooMany (replyBy theRegister words handler step) ≡ false
     ways (inl (refusal, given)) =
         let turned : turnOf words handler (step .code) (step .value) ≡ refusedTurn (viewed words) refusal
         = given-turn _ _ _ _ _ _ (step .value) refusal given in

@@ -53,7 +53,6 @@ module _ {player : Player} {words : List ℕ} where
       → NextPromise file cursors place next used → NextShown player words next shown after
       → PlacePromise player file cursors place words (lineIs place shown) used after
   place-shows {place = place} promise next = record {
-    shown = next .line place ∙ ap (lineFor player words place) (promise .replied);
-    used = promise .left;
-    left = next .left ∙ ap (wordsFor player words) (promise .replied);
+    replied = next .line place ∙ ap (lineFor player words place) (promise .replied);
+    left = λ i. record { cursors = promise .left i; words = (next .left ∙ ap (wordsFor player words) (promise .replied)) i };
   }

@@ -1,10 +1,10 @@
 -- Where a run stops: at the line of a step that is refused with 33, as only the judge refuses one.
 use Prim.Native.Nat.{ℕ}
-use mathlib.Core.Path.{_≡_}
 use mathlib.Core.Bool.{Bool, false, _||_}
 use mathlib.Core.List.{List, [], _∷_}
 use mathlib.Core.Option.{Option, none, some}
 use lib.Dec.{eqb}
+use Rattle.rules.specs.Promise.{Promise, answering}
 use Rattle.rules.specs.steps.Tables.{if_then_else_, isFound}
 use Rattle.rules.specs.steps.Replies.{refusalNumber, Reply, reported}
 use Rattle.runs.specs.Lines.{Line, lineIs}
@@ -24,9 +24,13 @@ abbrev pub stopsAt : Option Line → Bool
 stopsAt none = false
 stopsAt (some line) = stops line
 
--- The promise of the question whether a run stops at what a place shows, whichever place it is.
-pub record StopPromise (shown : Shown) (reply : Bool) : Type 0 where
-  pub replied : (place : ℕ) → reply ≡ stopsAt (lineIs place shown)
+-- A run stops at what a place shows; which place it is makes no difference (`stops-anywhere`).
+abbrev pub stopsShown : Shown → Bool
+stopsShown shown = stopsAt (lineIs 0 shown)
+
+-- The promise of the question whether a run stops at what a place shows.
+abbrev pub StopPromise : Shown → Bool → Type 0
+StopPromise shown reply = Promise (answering stopsShown) shown reply tt
 
 -- The lines up to the one at which a run stops.
 unfoldable pub untilStop : List Line → List Line

@@ -1,6 +1,6 @@
 -- `runs::cell_end` meets its promise: the player that is named is asked.
 use borrow.Author.Needs.{needs}
-use Rattle.runs.proofs.Players.{register-end, judge-end}
+use Rattle.runs.proofs.Players.{shows-as}
 use Rattle.runs.proofs.cell_end.Statement.{statement}
 use Rattle.runs.proofs.cell_end.Tie as tie
 
@@ -13,6 +13,6 @@ cell-end-spec =
     (λ c. search needs)
     (λ c κs. search needs)
     -- the register
-    (λ c. register-end (c .before .enum-told .given .1) (c .cell-end .ensures))
+    (λ c. shows-as (c .before .enum-told .given .1) (c .cell-end .ensures))
     -- the judge
-    (λ c. judge-end (c .before .enum-told2 .given .1) (c .cell-end2 .ensures)))
+    (λ c. shows-as (c .before .enum-told2 .given .1) (c .cell-end2 .ensures)))

@@ -1,6 +1,6 @@
 -- `runs::open` meets its promise: the words of the player that is named are opened.
 use borrow.Author.Needs.{needs}
-use Rattle.runs.proofs.Players.{register-opening, judge-opening}
+use Rattle.runs.proofs.Players.{opens-as}
 use Rattle.runs.proofs.open.Statement.{statement}
 use Rattle.runs.proofs.open.Tie as tie
 
@@ -14,7 +14,7 @@ open-spec =
     (λ c κs. search needs)
     (λ c. search needs)
     -- the register
-    (λ c. register-opening (c .before .before .before .before .enum-told .given .1) (c .before .before .open .ensures))
+    (λ c. opens-as (c .before .before .before .before .enum-told .given .1) (c .before .before .open .ensures))
     (λ c. search needs)
     -- the judge
-    (λ c. judge-opening (c .before .before .before .before .enum-told2 .given .1) (c .before .before .open2 .ensures)))
+    (λ c. opens-as (c .before .before .before .before .enum-told2 .given .1) (c .before .before .open2 .ensures)))

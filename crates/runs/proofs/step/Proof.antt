@@ -1,6 +1,6 @@
 -- `runs::step` meets its promise: the player that is named is asked.
 use borrow.Author.Needs.{needs}
-use Rattle.runs.proofs.Players.{register-step, judge-step}
+use Rattle.runs.proofs.Players.{steps-as}
 use Rattle.runs.proofs.step.Statement.{statement}
 use Rattle.runs.proofs.step.Tie as tie
 
@@ -14,7 +14,7 @@ step-spec =
     (λ c κs. search needs)
     (λ c. search needs)
     -- the register
-    (λ c. register-step (c .before .before .before .before .enum-told .given .1) (c .before .before .step .ensures))
+    (λ c. steps-as (c .before .before .before .before .enum-told .given .1) (c .before .before .step .ensures))
     (λ c. search needs)
     -- the judge
-    (λ c. judge-step (c .before .before .before .before .enum-told2 .given .1) (c .before .before .step2 .ensures)))
+    (λ c. steps-as (c .before .before .before .before .enum-told2 .given .1) (c .before .before .step2 .ensures)))

@@ -1,8 +1,7 @@
 -- `runs::stops_at` meets its promise: only the answer to a step is asked.
-use mathlib.Core.Path.{sym, ap, _∙_}
+use mathlib.Core.Path.{refl, sym, ap, _∙_}
 use borrow.Author.Needs.{needs}
-use Rattle.runs.specs.Lines.{lineIs}
-use Rattle.runs.specs.Stopping.{stopsAt}
+use Rattle.runs.specs.Stopping.{stopsShown}
 use Rattle.runs.proofs.stops_at.Statement.{statement}
 use Rattle.runs.proofs.stops_at.Tie as tie
 
@@ -15,8 +14,8 @@ stops-at-spec =
     (λ c. search needs)
     (λ c. search needs)
     -- a step's answer
-    (λ c. record { replied = λ place. c .is-too-many .ensures ∙ ap (λ shown. stopsAt (lineIs place shown)) (sym (c .before .before .shown .given .1)) })
+    (λ c. record { replied = c .is-too-many .ensures ∙ ap stopsShown (sym (c .before .before .shown .given .1)); left = refl })
     -- nothing
-    (λ c. record { replied = λ place. ap (λ shown. stopsAt (lineIs place shown)) (sym (c .enum-told .given .1)) })
+    (λ c. record { replied = ap stopsShown (sym (c .enum-told .given .1)); left = refl })
     -- no step
-    (λ c. record { replied = λ place. ap (λ shown. stopsAt (lineIs place shown)) (sym (c .enum-told2 .given .1)) }))
+    (λ c. record { replied = ap stopsShown (sym (c .enum-told2 .given .1)); left = refl }))
