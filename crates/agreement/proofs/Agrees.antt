@@ -15,6 +15,7 @@ use Rattle.rules.proofs.history.Alike.{length-same, replay-same, versionCount-s
 use Rattle.layout.specs.Places.{bodyOf}
 use Rattle.layout.specs.View.{wordSetting, view, registerIn}
 use Rattle.layout.proofs.Places.{body-small}
+use Rattle.replies.specs.Ends.{cellLine}
 use Rattle.promises.specs.Opening.{OpeningPromise}
 use Rattle.promises.specs.Runs.{opened}
 use Rattle.promises.proofs.Runs.{opens}
@@ -26,11 +27,11 @@ use Rattle.ledger.proofs.Opened.{ledger-ready}
 use Rattle.schedule.specs.Sound.{handlersIn, cellsIn, orderIn}
 use Rattle.schedule.specs.Taking.{atStart}
 use Rattle.schedule.specs.Admitting.{fileRefusal}
-use Rattle.schedule.specs.Runs.{Played, ran, runOf}
-use Rattle.schedule.specs.Shown.{cellLine}
 use Rattle.schedule.proofs.Admits.{good-exactly}
 use Rattle.judge.specs.Ending.{judgedEnd}
-use Rattle.playing.proofs.RunOf.{shownFrom, run-of-places, refused-run}
+use Rattle.runs.specs.ByRules.{Played, ran, runOf}
+use Rattle.runs.specs.RunOfPlaces.{shownFrom}
+use Rattle.runs.proofs.RunOf.{run-of-places, refused-run}
 use Rattle.agreement.specs.Agreement.{judgedFrom, Agree, JudgeAgrees}
 use Rattle.agreement.proofs.Cut.{cut-lines, cut-stops}
 use Rattle.agreement.proofs.Counts.{commits-noted}
@@ -83,7 +84,7 @@ module _ (file words : List ℕ) where
   file-agrees = found (fileRefusal file)
       (λ refusal e. rw (refused-run file e) tt)
       (λ free. let opening = register-opens (good-exactly file .0 free .sound .range) in
-      subst (Agrees file words) (sym (run-of-places file free opening)) (λ before ledger. run-agrees ledger opening))
+      subst (Agrees file words) (sym (run-of-places file _ _ free opening)) (λ before ledger. run-agrees ledger opening))
 
 -- THE JUDGE AGREES.
 pub judge-agrees : JudgeAgrees

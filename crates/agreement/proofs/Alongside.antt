@@ -10,13 +10,14 @@ use Rattle.rules.proofs.steps.Tables.{by, both-ways, or-left, or-right}
 use Rattle.ledger.specs.Promises.{reportsCommit}
 use Rattle.schedule.specs.Scripts.{ScriptStep}
 use Rattle.schedule.specs.Taking.{Cursors, Next, rejected, over, refused, taken, nextOf, cursorsAfter}
-use Rattle.schedule.specs.Runs.{Line, noStep, stepLine}
-use Rattle.schedule.specs.Lines.{theRegister, Stretch, inFront, lineFor, wordsFor, placesFrom}
-use Rattle.judging.specs.Player.{theJudge}
-use Rattle.agreement.specs.Agreement.{tooMany, everStops}
-use Rattle.judging.specs.Stopping.{stops}
+use Rattle.runs.specs.Lines.{Line, noStep, stepLine}
+use Rattle.runs.specs.Players.{theRegister, theJudge, replyBy}
+use Rattle.runs.specs.ByPlaces.{Stretch, inFront, lineFor, wordsFor, placesFrom}
+use Rattle.runs.specs.Stopping.{stops, everStops}
+use Rattle.runs.proofs.GoesOn.{register-other}
+use Rattle.agreement.specs.Agreement.{tooMany}
 use Rattle.agreement.proofs.Cut.{Cut, none, other, commit, full}
-use Rattle.agreement.proofs.Beside.{Beside, Room, register-other, judge-full, judge-with-room, judge-other}
+use Rattle.agreement.proofs.Beside.{Beside, Room, judge-full, judge-with-room, judge-other}
 use Rattle.agreement.proofs.Beside.{beside-after, room-committed, room-kept}
 
 -- A judged run alongside the register's: the lines with room for so many commits, and the words beside each other where the judge
@@ -71,7 +72,7 @@ module _ {m n : ℕ} {words ledger : List ℕ} (beside : Beside m n words ledger
   module _ (handler : ℕ) (step : ScriptStep) where
     -- What the register replies to a step,
     abbrev reply : Reply ℕ
-    reply = theRegister .reply words handler step
+    reply = replyBy theRegister words handler step
 
     -- and the line that it shows.
     abbrev line : Line
@@ -84,7 +85,7 @@ module _ {m n : ℕ} {words ledger : List ℕ} (beside : Beside m n words ledger
     commit-alongside (suc room) has reports later =
         let alike = judge-with-room beside handler step room has in
         let left = room-committed beside handler step alike room reports has in
-        rw alike (commit-front line (register-other beside handler step) reports (later room (beside-after beside handler step alike) left))
+        rw alike (commit-front line (register-other words handler step) reports (later room (beside-after beside handler step alike) left))
 
     -- A step that does not commit.
     other-alongside : (room : ℕ) → Room room ledger → reportsCommit reply ≡ false → GoOn (taken handler step) → Come room (taken handler step)
@@ -92,7 +93,7 @@ module _ {m n : ℕ} {words ledger : List ℕ} (beside : Beside m n words ledger
     other-alongside room has reports later =
         let alike = judge-other beside handler step reports in
         let left = room-kept beside handler step alike room reports has in
-        rw alike (other-front line (register-other beside handler step) reports (later room (beside-after beside handler step alike) left))
+        rw alike (other-front line (register-other words handler step) reports (later room (beside-after beside handler step alike) left))
 
   -- Whatever comes next at the place.
   place-alongside : (next : Next) (room : ℕ) → Room room ledger → GoOn next → Come room next
@@ -100,7 +101,7 @@ module _ {m n : ℕ} {words ledger : List ℕ} (beside : Beside m n words ledger
   place-alongside (rejected refusal) room has later = later room beside has
   place-alongside over room has later = later room beside has
   place-alongside (refused handler refusal) room has later = other-front (noStep place handler refusal) refl refl (later room beside has)
-  place-alongside (taken handler step) room has later = by (reportsCommit (theRegister .reply words handler step))
+  place-alongside (taken handler step) room has later = by (reportsCommit (replyBy theRegister words handler step))
       (λ reports. commit-alongside handler step room has reports later)
       (λ reports. other-alongside handler step room has reports later)
 

@@ -10,10 +10,10 @@ use Rattle.rules.specs.steps.Replies.{badFile}
 use Rattle.schedule.specs.Sound.{orderIn, isSoundFile}
 use Rattle.schedule.specs.Admitting.{fileRefusal, FileGiven, unsound}
 use Rattle.schedule.specs.Taking.{Cursors, atStart, nextOf, cursorsAfter}
-use Rattle.schedule.specs.Lines.{Player, Stretch, lineFor, wordsFor, placesFrom}
 use Rattle.schedule.proofs.Sounds.{not-sound-file}
 use Rattle.schedule.proofs.Admits.{file-exactly}
-use Rattle.judging.specs.Player.{theJudge}
+use Rattle.runs.specs.Players.{Player, theJudge}
+use Rattle.runs.specs.ByPlaces.{Stretch, lineFor, wordsFor, placesFrom}
 use Rattle.agreement.specs.Agreement.{judgedFrom}
 
 -- A run that shows nothing and leaves the words.

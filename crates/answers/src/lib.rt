@@ -16,6 +16,12 @@ ghost use Rattle.ledger.specs.Entries.{ledgerLong, mostCommits, commitRow, entr
 ghost use Rattle.ledger.specs.Histories.{deedsOf, commitsIn};
 ghost use Rattle.past.specs.Marks.{marked};
 
+// A version of a cell: the place of the commit that wrote it, 0 for the opening's, and its number among the cell's versions.
+pub struct Version {
+    pub writer: usize,
+    pub number: u32,
+}
+
 // Whether a row's transaction wrote the cell c.
 fn wrote(words: &[u32], row: usize, c: usize) -> bool
     requires { ⌜ (ledgerLong ≤ length (now words)) × (row < 81) × (c < 32) ⌝ }
@@ -45,20 +51,33 @@ pub fn has_copy(words: &[u32], row: usize, x: usize) -> bool
     }
 }
 
+// The present version of the cell x: its writer, and its number, which is how many versions the commits wrote.
+pub fn present_version(words: &[u32], x: usize, count: usize) -> Version
+    requires { ⌜ (ledgerLong ≤ length (now words)) × (x < 32) × (count ≤ mostCommits) ⌝ }
+    ensures version { λ r. ⌜ ((m : ℕ) → x < m → (r .writer ≡ writer (commitsIn m (now (words .entry)) count) x)
+        × (r .number ≡ versionCount (commitsIn m (now (words .entry)) count) x)) ⌝ }
+    ensures within { λ r. ⌜ r .writer ≤ count ⌝ }
+{
+    let mut writer = 0;
+    let mut number = 0u32;
+    for earlier in 0..count {
+        let place = earlier + 1;
+        if wrote(words, 16 + place, x) {
+            writer = place;
+            number += 1;
+        }
+    }
+    Version { writer, number }
+}
+
 // The place of the commit that wrote the cell's present version; 0 for the opening's.
 pub fn writer_of(words: &[u32], x: usize, count: usize) -> usize
     requires { ⌜ (ledgerLong ≤ length (now words)) × (x < 32) × (count ≤ mostCommits) ⌝ }
     ensures writer { λ r. ⌜ ((m : ℕ) → x < m → r ≡ writer (commitsIn m (now (words .entry)) count) x) ⌝ }
     ensures within { λ r. ⌜ r ≤ count ⌝ }
 {
-    let mut writer = 0;
-    for earlier in 0..count {
-        let place = earlier + 1;
-        if wrote(words, 16 + place, x) {
-            writer = place;
-        }
-    }
-    writer
+    let version = present_version(words, x, count);
+    version.writer
 }
 
 // The value of the cell's present version.
@@ -71,21 +90,6 @@ pub fn present_value(words: &[u32], x: usize, count: usize) -> u32
         return 0;
     }
     words[(16 + place) * 66 + (34 + x)]
-}
-
-// How many versions of the cell y the commits wrote.
-pub fn versions_of(words: &[u32], y: usize, count: usize) -> u32
-    requires { ⌜ (ledgerLong ≤ length (now words)) × (y < 32) × (count ≤ mostCommits) ⌝ }
-    ensures { λ r. ⌜ ((m : ℕ) → y < m → r ≡ versionCount (commitsIn m (now (words .entry)) count) y) ⌝ }
-{
-    let mut versions = 0u32;
-    for earlier in 0..count {
-        let place = earlier + 1;
-        if wrote(words, 16 + place, y) {
-            versions += 1;
-        }
-    }
-    versions
 }
 
 // Whether the commit at a place is marked, and wrote a later version of the cell y than the source did.

@@ -21,7 +21,7 @@ use Rattle.ledger.specs.Promises.{ledgerRefusal, freshLedger, ledgerWords, Ledg
 
 module _ (words : List ℕ) (m n : ℕ) where
   -- What is given a number is refused with it.
-  pub ledger-stops : (refusal : Refusal) → OpeningGiven refusal m n (length words) ledgerLong
+  pub ledger-stops : (refusal : Refusal) → OpeningGiven m n (length words) ledgerLong refusal
       → LedgerPromise words m n (Opening.refused refusal) words
   unfolding ledgerRefusal openingReply ledgerWords
   ledger-stops refusal given =

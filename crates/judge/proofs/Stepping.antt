@@ -69,12 +69,12 @@ module _ (words : List ℕ) (handler code value : ℕ) where
       step-ready =
           let (s, free) = free-exactly _ .0 e in (
             s,
-            free .placed .heard .known,
+            free .fits .heard .known,
             record {
               ledger = ledger;
               cells = refl;
-              handler = free .placed .heard .handler;
-              cell = free .placed .cell;
+              handler = free .fits .heard .handler;
+              cell = free .fits .cell;
               phase = free .phase;
             },
           )
@@ -84,7 +84,7 @@ module _ (words : List ℕ) (handler code value : ℕ) where
           → JudgedPromise words handler code value reply after
       step-passes passes =
           let (s, free) = free-exactly _ .0 e in
-          let asks : kindOf code ≡ known s = free .placed .heard .known in
+          let asks : kindOf code ≡ known s = free .fits .heard .known in
           let passed = passes s asks in
           let told : Reply ℕ = reportedTo handler code (answerOf words handler s) in
           promised told (judged-free _ _ _ _ _ s free) (passed .replied)

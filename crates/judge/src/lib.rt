@@ -7,16 +7,16 @@ ghost use mathlib.Core.Path.{_≡_};
 ghost use Rattle.ledger.specs.Entries.{ledgerLong};
 ghost use Rattle.ledger.specs.Promises.{LedgerPromise, JudgedPromise};
 ghost use Rattle.replies.specs.Meaning.{replyIs, openingIs};
-ghost use Rattle.schedule.specs.Shown.{endIs};
+ghost use Rattle.replies.specs.Ends.{endIs};
 ghost use Rattle.judge.specs.Ending.{JudgedEndPromise};
 use crate::reading::is_ledger;
 use crate::reading::is_open;
 use crate::taking::pass;
 use checks::Verdict;
 use replies::Answer;
+use replies::End;
 use replies::Opened;
 use replies::Refusal;
-use schedule::End;
 
 // The words that the judge needs, for any numbers of cells and handlers.
 pub fn words_needed() -> usize
@@ -38,7 +38,7 @@ pub fn open(words: &mut [u32], m: u32, n: u32) -> Opened
     words::clear(words, 2, 5344);
     words[0] = m;
     words[1] = n;
-    Opened::JudgeReady
+    Opened::Ready
 }
 
 // Judges the step of a handler, or refuses it.
@@ -69,8 +69,9 @@ pub fn cell_end(words: &[u32], c: u32) -> End
     }
     let x = c as usize;
     let count = words[2] as usize;
+    let version = answers::present_version(words, x, count);
     End::Cell {
         value: answers::present_value(words, x, count),
-        number: answers::versions_of(words, x, count),
+        number: version.number,
     }
 }

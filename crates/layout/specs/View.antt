@@ -4,15 +4,16 @@ use Prim.Native.Nat.{ℕ}
 use mathlib.Core.Bool.{false}
 use mathlib.Core.List.{List, _∷_, _++_}
 use lib.ListN.{drop}
-use Rattle.rules.specs.steps.Register.{Setting, Cell, Handler, Register, zeros, idle, blank}
+use Rattle.rules.specs.steps.Codes.{kindOf}
+use Rattle.rules.specs.steps.Register.{Setting, numbersUnder, Cell, Handler, Register, zeros, idle, blank}
 use Rattle.layout.specs.Bits.{hasBit, mask}
 use Rattle.layout.specs.Rows.{row, rows, below}
 use Rattle.layout.specs.Places.{cellsOf, handlersOf, bodyLong, bodyOf, cellPart, handlerPart, valueIn, numberIn, phaseIn, readSetIn}
 use Rattle.layout.specs.Places.{writtenSetIn, handlerNumberIn, transactionNumberIn, copyIn}
 
--- The rules over words: values are words, and an unwritten cell and a cleared copy hold 0.
+-- The rules over words, under the plain sheet: values are words, and an unwritten cell and a cleared copy hold 0.
 abbrev pub wordSetting : ℕ → Setting ℕ
-wordSetting m = record { empty = 0; cellCount = m }
+wordSetting m = numbersUnder kindOf m
 
 -- The cell that some words say.
 unfoldable pub viewCell : ℕ → List ℕ → Cell ℕ

@@ -10,6 +10,5 @@ pub mod Notes
 pub mod Outcomes
 pub mod Steps
 pub mod Opened
-pub mod Tight
 pub mod Exactly
 pub mod Runs

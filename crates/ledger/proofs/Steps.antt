@@ -97,7 +97,7 @@ module _ {words : List ℕ} (ledger : Ledger words) (i code : ℕ) where
   unfolding noteWords
   after-cases v Q isRefused isFree = reply-cases (λ reply. Q reply (kindOf code) (noteWords words i (kindOf code) v reply))
       (λ refusal. subst (Q (Reply.refused refusal) (kindOf code)) (sym (refusal-unnoted words i (kindOf code) v refusal)) (isRefused refusal (kindOf code)))
-      (λ s free room. subst (λ kind. Q (told s) kind (noteWords words i kind v (told s))) (sym (free .placed .heard .known)) (isFree s free room))
+      (λ s free room. subst (λ kind. Q (told s) kind (noteWords words i kind v (told s))) (sym (free .fits .heard .known)) (isFree s free room))
     where
       told : Step → Reply ℕ
       told s = reportedTo i code (answer S h i s)
@@ -108,9 +108,9 @@ module _ {words : List ℕ} (ledger : Ledger words) (i code : ℕ) where
   unfolding noteReply
   reply-noted v = after-cases v (λ reply kind after. SameHistory S (noteReply h i kind v reply) (historyIn after))
       (λ refusal kind. subst (λ g. SameHistory S g h) (sym (note-refused h i kind v refusal)) history-refl)
-      (λ s free room. outcome-noted ledger (free .placed .heard .handler) s v (answer S h i s) (free .placed .cell) (free .phase) room)
+      (λ s free room. outcome-noted ledger (free .fits .heard .handler) s v (answer S h i s) (free .fits .cell) (free .phase) room)
 
   -- and are a ledger of the same m and n.
   pub reply-keeps : (v : ℕ) → Keeps words (noteWords words i (kindOf code) v (judgedReply words i code))
   reply-keeps v = after-cases v (λ reply kind after. Keeps words after) (λ refusal kind. keeps-itself ledger)
-      (λ s free room. outcome-keeps ledger (free .placed .heard .handler) s v (answer S h i s) room)
+      (λ s free room. outcome-keeps ledger (free .fits .heard .handler) s v (answer S h i s) room)

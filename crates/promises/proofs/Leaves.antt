@@ -62,7 +62,7 @@ module _ {words : List ℕ} {handler code value : ℕ} {reply : Reply ℕ} {afte
     where
       ways : Stopped words handler code value after ⊎ Taken words handler code value after → Keeps words after
       ways (inl s) = rw (s .unchanged) (record { wellFormed = w; cellCount = refl; handlerCount = refl; size = refl })
-      ways (inr t) = rw (t .holds) (step-kept words w handler (t .free .placed .heard .handler) (t .what) (t .free .placed .cell) value)
+      ways (inr t) = rw (t .holds) (step-kept words w handler (t .free .fits .heard .handler) (t .what) (t .free .fits .cell) value)
 
   -- The words say the register that the rules leave.
   pub step-says : view (cellsOf words) (handlersOf words) (bodyOf after) ≡ turnOf words handler code value .after
@@ -74,7 +74,7 @@ module _ {words : List ℕ} {handler code value : ℕ} {reply : Reply ℕ} {afte
       ways (inr t) = rw (t .holds, t .turn) (view-pour _ _ _ _ confined)
         where
           confined : Confined (wordSetting (cellsOf words)) (handlersOf words) (resultOf words handler (t .what) value .after)
-          confined = step-confined _ _ _ (view-confined _ _ (bodyOf words)) handler (t .free .placed .heard .handler) (t .what) (t .free .placed .cell) value
+          confined = step-confined _ _ _ (view-confined _ _ (bodyOf words)) handler (t .free .fits .heard .handler) (t .what) (t .free .fits .cell) value
 
   -- As many words as before.
   pub step-size : length after ≡ length words
@@ -82,7 +82,7 @@ module _ {words : List ℕ} {handler code value : ℕ} {reply : Reply ℕ} {afte
     where
       ways : Stopped words handler code value after ⊎ Taken words handler code value after → length after ≡ length words
       ways (inl s) = ap length (s .unchanged)
-      ways (inr t) = step-keeps (tested words .0 (t .free .placed .heard .wellFormed)) .size
+      ways (inr t) = step-keeps (tested words .0 (t .free .fits .heard .wellFormed)) .size
 
   -- Words beyond the register's length are never changed.
   pub step-beyond : drop (size (cellsOf words) (handlersOf words)) after ≡ drop (size (cellsOf words) (handlersOf words)) words

@@ -48,10 +48,10 @@ block-only {words} {handler} {value = value} {after = after} t no-try =
     m = cellsOf words
 
     w : WellFormed words
-    w = tested words .0 (t .free .placed .heard .wellFormed)
+    w = tested words .0 (t .free .fits .heard .wellFormed)
 
     inside : handler < handlersOf words
-    inside = t .free .placed .heard .handler
+    inside = t .free .fits .heard .handler
 
     holds : Holds m (handlersOf words) (viewed words) (drop (bodyLong m (handlersOf words)) (bodyOf words)) (bodyOf words)
     holds = well-holds (w .body)

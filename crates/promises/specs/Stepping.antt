@@ -1,7 +1,7 @@
 -- What a step promises, for all words, handlers, codes and values: its reply, and every word afterwards.
 use Prim.Native.Nat.{ℕ}
-use mathlib.Core.Path.{_≡_}
 use mathlib.Core.List.{List}
+use Rattle.rules.specs.Promise.{Due, Promise}
 use Rattle.rules.specs.steps.Replies.{Reply, reported}
 use Rattle.rules.specs.steps.Register.{Register}
 use Rattle.rules.specs.steps.Codes.{Step}
@@ -31,7 +31,20 @@ unfoldable pub stepWords : List ℕ → Reply ℕ → Register ℕ → List ℕ
 stepWords words (Reply.refused refusal) r = words
 stepWords words (reported report) r = registerIn words (cellsOf words) (handlersOf words) r
 
+-- What a step is given: words, the handler that asks, a code, and a value where it is a write.
+pub record StepCall : Type 0 where
+  pub words : List ℕ
+  pub handler : ℕ
+  pub code : ℕ
+  pub value : ℕ
+
+-- What a step comes to.
+abbrev pub stepping : StepCall → Due (Reply ℕ) (List ℕ)
+stepping call =
+    let t = turnOf (call .words) (call .handler) (call .code) (call .value) in
+    record { reply = t .reply; leaves = stepWords (call .words) (t .reply) (t .after) }
+
 -- The promise of a step.
-pub record StepPromise (words : List ℕ) (handler code value : ℕ) (reply : Reply ℕ) (after : List ℕ) : Type 0 where
-  pub replied : reply ≡ turnOf words handler code value .reply
-  pub left : after ≡ stepWords words (turnOf words handler code value .reply) (turnOf words handler code value .after)
+abbrev pub StepPromise : List ℕ → ℕ → ℕ → ℕ → Reply ℕ → List ℕ → Type 0
+StepPromise words handler code value reply after =
+    Promise stepping (record { words = words; handler = handler; code = code; value = value }) reply after

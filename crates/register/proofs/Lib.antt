@@ -3,4 +3,5 @@ pub mod Refusing
 pub mod Opening
 pub mod Taking
 pub mod Stepping
+pub mod Ends
 pub mod Tight

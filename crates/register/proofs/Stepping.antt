@@ -7,7 +7,7 @@ use mathlib.Core.Option.{none, some}
 use Rattle.rules.specs.steps.Codes.{Step, known, kindOf}
 use Rattle.rules.specs.steps.Replies.{Refusal, notWellFormed, Outcome, Reply, reported}
 use Rattle.rules.specs.steps.Checks.{firstHit, Asked, stepChecks}
-use Rattle.rules.specs.steps.Turn.{Turn, asked, refusalIs, turned, turn}
+use Rattle.rules.specs.steps.Turn.{Turn, asked, stepRefusal, turned, turn}
 use Rattle.rules.proofs.steps.Given.{given-exactly, free-exactly}
 use Rattle.rules.proofs.steps.Turns.{refusedTurn, takenTurn, given-turn, free-turn}
 use Rattle.layout.specs.Places.{cellsOf, handlersOf, bodyOf}
@@ -54,12 +54,12 @@ module _ {m n : ℕ} {body : List ℕ} (standing : WholeBody m n body) (handler 
   pub body-ready : firstHit (stepChecks here) ≡ none → (s : Step) × (kindOf code ≡ known s) × Ready m n body handler s
   body-ready e =
       let (s, free) = free-exactly here .0 e in
-      let inside = free .placed .heard .handler in (
+      let inside = free .fits .heard .handler in (
         s,
-        free .placed .heard .known,
+        free .fits .heard .known,
         record {
           seated = record { formed = standing .formed; handler = inside; low = omega (arith, standing .most) };
-          cell = free .placed .cell;
+          cell = free .fits .cell;
           phase = phased m n handler body (standing .phases) s inside (free .phase);
         },
       )
@@ -73,7 +73,7 @@ module _ {m n : ℕ} {body : List ℕ} (standing : WholeBody m n body) (handler 
       let (s, free) = free-exactly here .0 e in
       let turn : bodyTurn m n body handler code value ≡ takenTurn (wordSetting m) (view m n body) handler code value s
       = free-turn _ _ _ _ _ _ value s free in
-      let taken = takes s (free .placed .heard .known) in
+      let taken = takes s (free .fits .heard .known) in
       record {
         replied = ap (λ o. reported (record { handler = handler; code = code; outcome = o })) (taken .replied) ∙ rw turn;
         left = taken .left ∙ rw turn;
@@ -88,7 +88,7 @@ stands w = record { formed = record { good = w .body; few = w .range .cells }; m
 module _ (words : List ℕ) (handler code value : ℕ) where
   -- Words that are no register are refused.
   pub malformed-stops : isWellFormed words ≡ false → StepPromise words handler code value (Reply.refused notWellFormed) words
-  unfolding turnOf stepWords turn refusalIs turned firstHit stepChecks
+  unfolding turnOf stepWords turn stepRefusal turned firstHit stepChecks
   malformed-stops malformed = record { replied = rw malformed; left = rw malformed }
 
   -- What the body promises the words promise, with m and n in front.

@@ -1,4 +1,4 @@
-// A transactional register over words that the caller lends: opening it, and steps of its handlers.
+// A transactional register over words that the caller lends: opening it, steps of its handlers, and what is shown of a cell.
 // PUBLIC: nothing here has a `requires`. Each promise fixes the reply and every word of the buffer, for all inputs.
 mod body;
 mod take;
@@ -7,9 +7,12 @@ ghost use Rattle.promises.specs.Opening.{OpeningPromise};
 ghost use Rattle.promises.specs.Stepping.{StepPromise};
 ghost use Rattle.promises.specs.Lengths.{LengthPromise};
 ghost use Rattle.replies.specs.Meaning.{replyIs, openingIs};
+ghost use Rattle.replies.specs.Ends.{endIs};
 ghost use Rattle.register.specs.Meaning.{neededIs};
+ghost use Rattle.register.specs.Ending.{EndPromise};
 pub use body::step_body;
 use replies::Answer;
+use replies::End;
 use replies::Opened;
 use replies::Refusal;
 
@@ -60,4 +63,23 @@ pub fn step(words: &mut [u32], handler: u32, code: u32, value: u32) -> Answer
     let m = words[0] as usize;
     let n = words[1] as usize;
     step_body(&mut words[2..], m, n, handler, code, value)
+}
+
+// A cell's value and own number.
+pub fn cell_end(words: &[u32], c: u32) -> End
+    ensures { λ r. ⌜ EndPromise (now (words .entry)) c (endIs r) ⌝ }
+{
+    if !formed::well_formed(words) {
+        return End::Missing;
+    }
+    if words[0] <= c {
+        return End::Missing;
+    }
+    let m = words[0] as usize;
+    let k = c as usize;
+    let start = 2 + k * (m + 1);
+    End::Cell {
+        value: words[start],
+        number: words[start + 1 + k],
+    }
 }

@@ -1,7 +1,10 @@
--- Nothing is lost in what a reply means: different answers are different replies of the rules. Each meaning can be read back.
+-- Nothing is lost in what a reply means, nor in what is shown of a cell: different answers are different replies of the rules, and
+-- different ends different lines. Each meaning can be read back.
 use Prim.Native.Nat.{ℕ}
 use mathlib.Core.Path.{_≡_, refl, ap}
+use mathlib.Core.Option.{Option, none, some}
 use Rattle.rules.specs.steps.Replies as Rules
+use Rattle.rules.proofs.Determined.{Determined, determined}
 use Rattle.rules.proofs.steps.Numbers.{Injective, read-back}
 use Rattle.replies.specs.declared.Reason.{Reason}
 use Rattle.replies.specs.declared.Reason.the-variants.{Torn, Overtaken, Spent}
@@ -14,7 +17,10 @@ use Rattle.replies.specs.declared.Answer.{Answer}
 use Rattle.replies.specs.declared.Answer.the-variants.{Reported, Refused}
 use Rattle.replies.specs.declared.Opened.{Opened}
 use Rattle.replies.specs.declared.Opened.the-variants.{Ready, Rejected}
+use Rattle.replies.specs.declared.End.{End}
+use Rattle.replies.specs.declared.End.the-variants.{Cell, Missing}
 use Rattle.replies.specs.Meaning.{reasonIs, outcomeIs, refusalIs, replyIs, openingIs}
+use Rattle.replies.specs.Ends.{CellLine, endIs}
 
 -- ── Reading back ──────────────────────────────────────────────────────
 
@@ -49,6 +55,10 @@ answerBack (Rules.Reply.refused refusal) = Refused (refusalBack refusal)
 openedBack : Rules.Opening → Opened
 openedBack Rules.ready = Ready
 openedBack (Rules.Opening.refused refusal) = Rejected (refusalBack refusal)
+
+endBack : Option CellLine → End
+endBack (some line) = Cell (line .value) (line .number)
+endBack none = Missing
 
 -- ── What is read back is what was said ────────────────────────────────
 
@@ -89,6 +99,11 @@ unfolding openedBack
 opened-same Ready = refl
 opened-same (Rejected refusal) = ap Rejected (refusal-same refusal)
 
+end-same : (end : End) → endBack (endIs end) ≡ end
+unfolding endBack
+end-same (Cell value number) = refl
+end-same Missing = refl
+
 -- ── No two are the same ───────────────────────────────────────────────
 
 -- Different outcomes differ in the rules.
@@ -102,3 +117,21 @@ answers-apart = read-back replyIs answerBack answer-same
 -- Different answers to an opening differ in the rules.
 pub openings-apart : Injective openingIs
 openings-apart = read-back openingIs openedBack opened-same
+
+-- Different ends are different lines, or one is none.
+pub ends-apart : Injective endIs
+ends-apart = read-back endIs endBack end-same
+
+-- ── One outcome ───────────────────────────────────────────────────────
+
+-- Whatever answers a step, its promise allows one answer, and one thing left.
+pub answer-determined : Determined replyIs
+answer-determined = determined answers-apart
+
+-- Whatever is opened, its promise allows one answer, and one thing left.
+pub opened-determined : Determined openingIs
+opened-determined = determined openings-apart
+
+-- Whatever shows a cell's end, its promise allows one.
+pub end-determined : Determined endIs
+end-determined = determined ends-apart

@@ -1,4 +1,5 @@
-// The replies of a register, as its callers see them: a report with an outcome with a reason, or a refusal; and their numbers.
+// The replies of a register, as its callers see them: a report with an outcome with a reason, or a refusal; their numbers; and what is
+// shown of a cell at the end.
 ghost use mathlib.Core.Path.{_≡_};
 ghost use Rattle.rules.specs.steps.Replies.{reasonNumber, refusalNumber};
 ghost use Rattle.replies.specs.Meaning.{reasonIs, refusalIs};
@@ -50,6 +51,12 @@ pub enum Answer {
 pub enum Opened {
     Ready,
     Rejected(Refusal),
+}
+
+// What is shown of a cell at the end, if there is such a cell.
+pub enum End {
+    Cell { value: u32, number: u32 },
+    Missing,
 }
 
 // The number of a reason.

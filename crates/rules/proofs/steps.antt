@@ -8,6 +8,7 @@ pub mod Turns
 pub mod Properties
 pub mod Attempts
 pub mod Ways
+pub mod Sheets
 pub mod Mapped
 pub mod Bounds
 pub mod Confined

@@ -1,6 +1,6 @@
 -- The admission of a file gives 30 and 15 exactly when document 01 says, and is sound exactly for a file that is run.
 use Prim.Native.Nat.{ℕ, _<_}
-use mathlib.Core.Path.{_≡_, sym, _∙_}
+use mathlib.Core.Path.{_≡_, refl, sym, _∙_}
 use mathlib.Core.Bool.{Bool, true, false, not}
 use mathlib.Core.List.{List}
 use mathlib.Core.Logic.{_↔_, _⊎_, inl, inr}
@@ -37,18 +37,18 @@ module _ {file : List ℕ} where
   -- A file that is not sound.
   pub admitted-bad : isSoundFile file ≡ false → AdmissionPromise file (refused badFile)
   unfolding admissionOf admitted fileRefusal fileChecks firstHit
-  admitted-bad bad = record { replied = rw bad }
+  admitted-bad bad = record { replied = rw bad; left = refl }
 
   module _ (sound : isSoundFile file ≡ true) where
     -- A sound file with a script that is not whole.
     pub admitted-spoilt : allWhole file ≡ false → AdmissionPromise file (refused unknownStep)
     unfolding admissionOf admitted fileRefusal fileChecks firstHit
-    admitted-spoilt not-whole = record { replied = rw (sound, not-whole) }
+    admitted-spoilt not-whole = record { replied = rw (sound, not-whole); left = refl }
 
     -- A sound file whose scripts are whole.
     pub admitted-sound : allWhole file ≡ true → AdmissionPromise file (Admission.sound (handlersIn file) (cellsIn file))
     unfolding admissionOf admitted fileRefusal fileChecks firstHit
-    admitted-sound whole = record { replied = rw (sound, whole) }
+    admitted-sound whole = record { replied = rw (sound, whole); left = refl }
 
 -- ── Exactly then ──────────────────────────────────────────────────────
 

@@ -2,6 +2,7 @@
 use mathlib.Core.Path.{_≡_, refl, ap}
 use mathlib.Core.Option.{Option, none, some}
 use Rattle.rules.specs.steps.Replies as Rules
+use Rattle.rules.proofs.Determined.{Determined, determined}
 use Rattle.rules.proofs.steps.Numbers.{Injective, read-back}
 use Rattle.replies.proofs.Apart.{refusalBack, refusal-same}
 use Rattle.schedule.specs.Admitting as Admitting
@@ -56,3 +57,17 @@ found-apart = read-back foundIs foundBack found-same
 -- Different answers at an order place are different steps or refusals.
 pub nexts-apart : Injective nextIs
 nexts-apart = read-back nextIs nextBack next-same
+
+-- ── One outcome ───────────────────────────────────────────────────────
+
+-- An admission has one answer,
+pub admitted-determined : Determined admissionIs
+admitted-determined = determined admitted-apart
+
+-- so has the question for a script,
+pub found-determined : Determined foundIs
+found-determined = determined found-apart
+
+-- and a next step, which leaves one row of cursors.
+pub next-determined : Determined nextIs
+next-determined = determined nexts-apart

@@ -6,7 +6,4 @@ pub mod Finds
 pub mod Takes
 pub mod Nexts
 pub mod Apart
-pub mod ShownApart
 pub mod Exactly
-pub mod Tight
-pub mod Shows

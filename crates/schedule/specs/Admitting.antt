@@ -4,6 +4,7 @@ use mathlib.Core.Path.{_≡_}
 use mathlib.Core.Bool.{Bool, true, false, not}
 use mathlib.Core.List.{List, [], _∷_}
 use mathlib.Core.Option.{Option, none, some}
+use Rattle.rules.specs.Promise.{Promise, answering}
 use Rattle.rules.specs.steps.Replies.{Refusal, badFile, unknownStep}
 use Rattle.rules.specs.steps.Checks.{Check, _when_, firstHit}
 use Rattle.layout.specs.WellFormed.{everyBelow}
@@ -50,5 +51,5 @@ pub data FileGiven (file : List ℕ) : Refusal → Type 0 where
       → FileGiven file unknownStep
 
 -- The promise of an admission.
-pub record AdmissionPromise (file : List ℕ) (reply : Admission) : Type 0 where
-  pub replied : reply ≡ admissionOf file
+abbrev pub AdmissionPromise : List ℕ → Admission → Type 0
+AdmissionPromise file reply = Promise (answering admissionOf) file reply tt

@@ -1,4 +1,4 @@
--- What the functions inside this crate say: how many bytes a step takes, what stands in front of what is left of a script, and
+-- For the functions inside this crate alone: how many bytes a step takes, what stands in front of what is left of a script, and
 -- what an order place names.
 use Prim.Native.Nat.{ℕ, _+_, _≤_, _<_}
 use mathlib.Core.Path.{_≡_}

@@ -5,9 +5,6 @@ pub mod Scripts
 pub mod Admitting
 pub mod Finding
 pub mod Taking
-pub mod Runs
-pub mod Lines
-pub mod Shown
 pub mod Meaning
 pub mod Fronts
 pub mod Given

@@ -1,7 +1,7 @@
-// The schedule file: its admission, a handler's script as a part of it, the next step at an order place, and what a run of it shows.
+// The schedule file: its admission, a handler's script as a part of it, and the next step at an order place.
 // PUBLIC: nothing here has a `requires`. Each promise fixes the reply for every file, whatever its bytes and its length.
-mod sound;
 mod scripts;
+mod sound;
 mod table;
 mod taking;
 
@@ -16,7 +16,6 @@ use crate::table::body;
 use crate::taking::Order;
 use crate::taking::named_step;
 use crate::taking::order_byte;
-use replies::Answer;
 use replies::Refusal;
 
 // The admission of a file: sound, with n and m, or refused.
@@ -48,32 +47,6 @@ pub enum Next {
 pub struct Step {
     pub next: Next,
     pub cursors: Cursors,
-}
-
-// What a place shows: nothing where the order has no such place, a refusal where no step was taken, or the answer to a step.
-pub enum Shown {
-    Nothing,
-    NoStep {
-        handler: u32,
-        refusal: Refusal,
-    },
-    Asked {
-        handler: u32,
-        code: u32,
-        answer: Answer,
-    },
-}
-
-// What a place shows, and the cursors afterwards.
-pub struct Placed {
-    pub shown: Shown,
-    pub cursors: Cursors,
-}
-
-// What is shown of a cell at the end, if the register has such a cell.
-pub enum End {
-    Cell { value: u32, number: u32 },
-    Missing,
 }
 
 // Admits a file or refuses it, before its first step.

@@ -1,6 +1,6 @@
 -- `gateway::zidlemowo_length` meets its promise: the register's answer as a number.
 use Prim.Native.Nat.{ℕ, _≤_}
-use mathlib.Core.Path.{_≡_, sym, ap, _∙_}
+use mathlib.Core.Path.{_≡_, refl, sym, ap, _∙_}
 use mathlib.Core.Option.{some, Option·some-injective, Option·some-ne-none}
 use native.Mathlib.Omega.{arith}
 use borrow.Author.Needs.{needs}
@@ -34,6 +34,9 @@ zidlemowo-length-spec =
     (λ c. search needs)
     (λ c. omega (arith, at-most _ _ _ (answered (c .before))))
     (λ c. search needs)
-    (λ c. record { replied = ap lengthNumber (answered (c .before)) })
+    (λ c. record { replied = ap lengthNumber (answered (c .before)); left = refl })
     (λ c. let needed = c .before .before .words-needed in
-    record { replied = ap (λ answer. lengthNumber (neededIs answer)) (sym (c .enum-told .given .1)) ∙ ap lengthNumber (needed .ensures .replied) }))
+    record {
+      replied = ap (λ answer. lengthNumber (neededIs answer)) (sym (c .enum-told .given .1)) ∙ ap lengthNumber (needed .ensures .replied);
+      left = refl;
+    }))

@@ -1,5 +1,5 @@
 -- `register::words_needed` meets its contract: the length where m and n are in range, and else nothing.
-use mathlib.Core.Path.{_≡_, sym, ap, _∙_}
+use mathlib.Core.Path.{_≡_, refl, sym, ap, _∙_}
 use mathlib.Core.Bool.{true}
 use mathlib.Core.Option.{some}
 use Prim.Native.Nat.{_+_}
@@ -15,7 +15,7 @@ use Rattle.register.proofs.words_needed.Tie as tie
 
 returns : tie.Need-returns
 unfolding lengthFor
-returns c = record { replied = rw (sym (c .before .in-range .ensures) ∙ not-true _ (c .if1 .taken)) }
+returns c = record { replied = rw (sym (c .before .in-range .ensures) ∙ not-true _ (c .if1 .taken)); left = refl }
 
 -- m and n are in range.
 ranged : (c : tie.Else1) → inRange (c .before .before .args .m) (c .before .before .args .n) ≡ true
@@ -23,7 +23,7 @@ ranged c = sym (c .before .in-range .ensures) ∙ not-false _ (c .if1 .left)
 
 returns-2 : tie.Need-returns-2
 unfolding lengthFor
-returns-2 c = record { replied = rw (ranged (c .before)) (ap (λ k. some (2 + k)) (c .body-words .ensures)) }
+returns-2 c = record { replied = rw (ranged (c .before)) (ap (λ k. some (2 + k)) (c .body-words .ensures)); left = refl }
 
 pub words-needed-spec : {M : Type 1} → statement M
 words-needed-spec =

@@ -7,7 +7,7 @@ use mathlib.Core.List.{List, [], _∷_, _++_, map}
 use Rattle.rules.specs.steps.Tables.{put, orElse, lowest, someBelow}
 use Rattle.rules.specs.steps.Codes.{kindOf}
 use Rattle.rules.specs.steps.Replies.{Numbers, replyNumbers}
-use Rattle.rules.specs.steps.Register.{Register, withHandler, idle, blank, fresh}
+use Rattle.rules.specs.steps.Register.{numbersUnder, Register, withHandler, idle, blank, fresh}
 use Rattle.rules.specs.steps.Checks.{firstHit, stepChecks}
 use Rattle.rules.specs.steps.Figure.{joined, taken, wrote, shown, stamped, stored, begun, isTorn, isOvertaken, isSpent}
 use Rattle.rules.specs.steps.Figure.{aborting, committing, unlessAborted, readChecks, tryChecks, firstRead, reading, trying, step}
@@ -51,13 +51,13 @@ cellsIn m r = entries m (λ c. r .cells c .value ∷ entries m (r .cells c .numb
 play : ℕ → ℕ → Register ℕ → List CaseStep → Played
 play m n r [] = record { replies = []; cells = cellsIn m r }
 play m n r (l ∷ lines) =
-    let t = turn (record { empty = 0; cellCount = m }) n true r (l .handler) (l .code) (l .value) in
+    let t = turn (numbersUnder kindOf m) n true r (l .handler) (l .code) (l .value) in
     let rest = play m n (t .after) lines in
     record { replies = replyNumbers (t .reply) ∷ rest .replies; cells = rest .cells }
 
 -- What the rules make of a row.
 pub made : Row → Played
-made row = play (row .m) (row .n) (fresh (record { empty = 0; cellCount = row .m })) (row .lines)
+made row = play (row .m) (row .n) (fresh (numbersUnder kindOf (row .m))) (row .lines)
 
 -- What a row says.
 pub said : Row → Played

@@ -8,7 +8,7 @@ use lib.Dec.{ltb}
 use Rattle.rules.specs.steps.Tables.{put, orElse, lowest, someBelow}
 use Rattle.rules.specs.steps.Codes.{read, kindOf}
 use Rattle.rules.specs.steps.Replies.{Outcome, Reply}
-use Rattle.rules.specs.steps.Register.{Setting, withHandler, idle, blank, fresh}
+use Rattle.rules.specs.steps.Register.{Setting, numbersUnder, withHandler, idle, blank, fresh}
 use Rattle.rules.specs.steps.Checks.{firstHit, stepChecks}
 use Rattle.rules.specs.steps.Figure.{joined, taken, wrote, shown, stamped, stored, begun, isTorn, isOvertaken, isSpent, aborting}
 use Rattle.rules.specs.steps.Figure.{committing, unlessAborted, readChecks, tryChecks, firstRead, reading, trying, step}
@@ -22,7 +22,7 @@ use Rattle.rules.specs.demand.Judge.{copied, orAborted, answerRead, answ
 
 -- Two cells that hold 0 at opening.
 abbrev pub two : Setting ℕ
-two = record { empty = 0; cellCount = 2 }
+two = numbersUnder kindOf 2
 
 -- Handler i asks to begin,
 abbrev pub begins : ℕ → Ask ℕ

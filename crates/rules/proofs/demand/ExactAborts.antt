@@ -6,7 +6,7 @@ use mathlib.Core.Bool.{Bool, true, false, false≢true}
 use mathlib.Core.List.{List, [], _∷_}
 use mathlib.Core.Logic.{_↔_, Iff·trans}
 use Rattle.rules.specs.steps.Tables.{someBelow}
-use Rattle.rules.specs.steps.Codes.{Step, try, read, known, kindOf}
+use Rattle.rules.specs.steps.Codes.{Step, try, read, known}
 use Rattle.rules.specs.steps.Replies.{Reason, torn, overtaken, spent, Outcome, ok, value, committed, aborted, Reply, reported}
 use Rattle.rules.specs.steps.Register.{Setting, Register}
 use Rattle.rules.specs.steps.Checks.{Check, _when_, firstHit}
@@ -59,10 +59,10 @@ module _ {W : Type 0} (S : Setting W) (n : ℕ) (r : Register W) (h : History W)
       replies = reply-is S r h g n i code v ∙ judged-free S n h i code s free
 
   -- A step of a cell below m, asked for by a handler below n in the phase that it wants, is free by the history.
-  free-by-history : (s : Step) → kindOf code ≡ known s → i < n → Within (S .cellCount) s → h .opened i ≡ phaseFor s
+  free-by-history : (s : Step) → S .sheet code ≡ known s → i < n → Within (S .cellCount) s → h .opened i ≡ phaseFor s
       → Free (askedByHistory S n h i code) s
   free-by-history s asks inside cell phase = record {
-    placed = record { heard = record { wellFormed = refl; known = asks; handler = inside }; cell = cell };
+    fits = record { heard = record { wellFormed = refl; known = asks; handler = inside }; cell = cell };
     phase = phase;
   }
 
@@ -89,7 +89,7 @@ module _ {W : Type 0} (S : Setting W) (n : ℕ) (r : Register W) (h : History W)
       by-check = rw (f .unread, f .unwritten) (abort-exactly torn isTorn [] (value present) (not-torn present))
 
   -- Abort 2: exactly when a version read is no longer the present one.
-  pub overtaken-exactly : i < n → kindOf code ≡ known try → h .opened i ≡ true
+  pub overtaken-exactly : i < n → S .sheet code ≡ known try → h .opened i ≡ true
       → (turn S n true r i code v .reply ≡ reportedTo i code (aborted overtaken)) ↔ Overtaken (h .commits) (h .now i)
   unfolding answer answerTry
   overtaken-exactly inside k isOpen =

@@ -26,7 +26,7 @@ use Rattle.rules.proofs.demand.Committing.{held}
 
 module _ {W : Type 0} (S : Setting W) (n : ℕ) (h : History W) (i code : ℕ) where
   -- A step that is given a number by the history is refused with it.
-  pub judged-refused : (refusal : Refusal) → Given refusal (askedByHistory S n h i code)
+  pub judged-refused : (refusal : Refusal) → Given (askedByHistory S n h i code) refusal
       → judgement S n h i code ≡ Reply.refused refusal
   unfolding judgement orAnswered
   judged-refused refusal given = rw (given-exactly (askedByHistory S n h i code) refusal .1 given)
@@ -35,7 +35,7 @@ module _ {W : Type 0} (S : Setting W) (n : ℕ) (h : History W) (i code : ℕ) w
   pub judged-free : (s : Step) → Free (askedByHistory S n h i code) s
       → judgement S n h i code ≡ reportedTo i code (answer S h i s)
   unfolding judgement orAnswered
-  judged-free s free = rw (free-exactly (askedByHistory S n h i code) .1 (s, free), free .placed .heard .known)
+  judged-free s free = rw (free-exactly (askedByHistory S n h i code) .1 (s, free), free .fits .heard .known)
 
 module _ {W : Type 0} (S : Setting W) (r : Register W) (h : History W) (g : Invariant S r h) where
   -- ── The tests by the numbers are the tests by the history ───────────
@@ -95,8 +95,8 @@ module _ {W : Type 0} (S : Setting W) (r : Register W) (h : History W) (g : Inva
       same : asked S n true r i code ≡ askedByHistory S n h i code
       same = rw (g .handlers i .opened)
 
-      isRefused : (refusal : Refusal) → Given refusal (asked S n true r i code) → Reply.refused refusal ≡ judgement S n h i code
-      isRefused refusal given = sym (judged-refused S n h i code refusal (subst (Given refusal) same given))
+      isRefused : (refusal : Refusal) → Given (asked S n true r i code) refusal → Reply.refused refusal ≡ judgement S n h i code
+      isRefused refusal given = sym (judged-refused S n h i code refusal (subst (λ a. Given a refusal) same given))
 
       isTaken : (s : Step) → Free (asked S n true r i code) s → takenTurn S r i code v s .reply ≡ judgement S n h i code
       isTaken s free =

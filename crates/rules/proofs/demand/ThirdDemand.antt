@@ -4,7 +4,7 @@ use native.Mathlib.Omega.{arith}
 use mathlib.Core.Path.{_≡_, refl, sym, _∙_, subst}
 use mathlib.Core.Bool.{true, false, _||_}
 use mathlib.Core.List.{List, [], _∷_}
-use Rattle.rules.specs.steps.Codes.{Step, begin, try, read, write, Kind, known, unknown, kindOf}
+use Rattle.rules.specs.steps.Codes.{Step, begin, try, read, write, Kind, known, unknown}
 use Rattle.rules.specs.steps.Replies.{Refusal, Reply}
 use Rattle.rules.specs.steps.Register.{Setting, Handler, Register, withHandler}
 use Rattle.rules.specs.steps.Given.{Within, phaseFor, Free}
@@ -157,18 +157,18 @@ note-refused h i unknown v refusal = refl
 module _ {W : Type 0} (S : Setting W) (n : ℕ) where
   -- Every turn, refused or taken.
   pub turn-kept : (r : Register W) (h : History W) (i code : ℕ) (v : W) → Kept S r h
-      → Kept S (turn S n true r i code v .after) (noteReply h i (kindOf code) v (turn S n true r i code v .reply))
+      → Kept S (turn S n true r i code v .after) (noteReply h i (S .sheet code) v (turn S n true r i code v .reply))
   turn-kept r h i code v kept =
-      turn-cases S n true r i code v (λ t. Kept S (t .after) (noteReply h i (kindOf code) v (t .reply)))
-      (λ refusal given. rw (note-refused h i (kindOf code) v refusal) kept)
-      (λ s free. rw (free .placed .heard .known) (unfold noteReply in (taken s free)))
+      turn-cases S n true r i code v (λ t. Kept S (t .after) (noteReply h i (S .sheet code) v (t .reply)))
+      (λ refusal given. rw (note-refused h i (S .sheet code) v refusal) kept)
+      (λ s free. rw (free .fits .heard .known) (unfold noteReply in (taken s free)))
     where
       phase : (s : Step) → Free (asked S n true r i code) s → h .opened i ≡ phaseFor s
       phase s free = sym (kept .invariant .handlers i .opened) ∙ free .phase
 
       taken : (s : Step) → Free (asked S n true r i code) s
           → Kept S (step S r i s v .after) (note h i s v (step S r i s v .outcome))
-      taken s free = step-kept S r h i kept s v (free .placed .cell) (phase s free)
+      taken s free = step-kept S r h i kept s v (free .fits .cell) (phase s free)
 
   -- Every run, from any state that has it.
   pub run-kept : (s : State W) (asks : List (Ask W)) → Kept S (s .register) (s .history)

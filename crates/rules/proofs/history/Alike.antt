@@ -8,7 +8,7 @@ use mathlib.Core.Option.{Option}
 use lib.ListN.{length}
 use lib.Dec.{eqb}
 use Rattle.rules.specs.steps.Tables.{if_then_else_}
-use Rattle.rules.specs.steps.Codes.{Step, begin, try, read, write, Kind, known, unknown, kindOf}
+use Rattle.rules.specs.steps.Codes.{Step, begin, try, read, write, Kind, known, unknown}
 use Rattle.rules.specs.steps.Replies.{Refusal}
 use Rattle.rules.specs.steps.Register.{Setting}
 use Rattle.rules.specs.history.History.{Deed, Commit, History, someLook, hasRead, hasWritten, placeAfter, writerAmong, everyCommit, writer}
@@ -245,4 +245,4 @@ module _ {W : Type 0} {S : Setting W} where
     -- so the judgement of whatever is asked for is the same.
     pub judgement-same : (n code : ℕ) → judgement S n h i code ≡ judgement S n g i code
     unfolding judgement
-    judgement-same n code = rw (same .opened i) (orAnswered-same code _ (kindOf code))
+    judgement-same n code = rw (same .opened i) (orAnswered-same code _ (S .sheet code))

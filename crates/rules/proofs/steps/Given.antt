@@ -9,9 +9,10 @@ use lib.Dec.{leb, ltb}
 use borrow.Author.Tests.{leb-true, leb-false, le-leb, lt-leb, ltb-true, lt-ltb}
 use Rattle.rules.specs.steps.Codes.{Step, begin, try, read, write, Kind, known, unknown}
 use Rattle.rules.specs.steps.Replies.{Refusal, notWellFormed, noHandler, noCell, alreadyOpen, notOpen, unknownStep, outOfRange}
-use Rattle.rules.specs.steps.Replies.{tooShort, badFile, usedUp, tooManyCommits}
+use Rattle.rules.specs.steps.Replies.{tooShort}
 use Rattle.rules.specs.steps.Checks.{Check, _when_, firstHit, Asked, isBeyond, isBegin, stepChecks, inRange, openingChecks}
-use Rattle.rules.specs.steps.Given.{Within, Beyond, Late, Heard, Fitting, Given, phaseFor, Free, InRange, OpeningGiven}
+use Rattle.rules.specs.steps.Given.{Within, Beyond, Late, Heard, Fitting, Given, malformed, unlisted, unseated, outside, twice, early, phaseFor, Free}
+use Rattle.rules.specs.steps.Given.{InRange, OpeningGiven, wrongCounts, wrongLength}
 use Rattle.rules.proofs.steps.Tables.{and-iff, leb-iff, by, both-ways}
 
 -- Where each G gives its own answer, and one G holds or there is no answer, an answer is given exactly when its G holds.
@@ -90,30 +91,25 @@ module _ (a : Asked) where
   fitting-says s p = heard-says s (p .heard) ∙ rw (within-test (a .cellCount) s (p .cell))
 
   -- A step that is given a number is refused with it.
-  given-says : (refusal : Refusal) → Given refusal a → says ≡ some refusal
+  given-says : (refusal : Refusal) → Given a refusal → says ≡ some refusal
   unfolding says firstHit stepChecks
-  given-says notWellFormed e = rw e
-  given-says unknownStep (e, k) = rw (e, k)
-  given-says noHandler (s, e, k, l) = rw (e, k, le-leb (a .handlerCount) (a .handler) l)
-  given-says noCell (s, h, b) = heard-says s h ∙ rw (beyond-test (a .cellCount) s b)
-  given-says alreadyOpen (p, o) = fitting-says begin p ∙ rw o
-  given-says notOpen (s, p, l, o) = fitting-says s p ∙ late s l
+  given-says notWellFormed (malformed e) = rw e
+  given-says unknownStep (unlisted e k) = rw (e, k)
+  given-says noHandler (unseated s e k l) = rw (e, k, le-leb (a .handlerCount) (a .handler) l)
+  given-says noCell (outside s h b) = heard-says s h ∙ rw (beyond-test (a .cellCount) s b)
+  given-says alreadyOpen (twice p o) = fitting-says begin p ∙ rw o
+  given-says notOpen (early s p l o) = fitting-says s p ∙ late s l
     where
       late : (s : Step) → Late s → phased s ≡ some notOpen
       late begin l = absurd l
       late try l = rw o
       late (read x) l = rw o
       late (write x) l = rw o
-  given-says outOfRange g = absurd g
-  given-says tooShort g = absurd g
-  given-says badFile g = absurd g
-  given-says usedUp g = absurd g
-  given-says tooManyCommits g = absurd g
 
   -- A step that is free passes every check.
   free-passes : (s : Step) → Free a s → says ≡ none
   unfolding firstHit
-  free-passes s f = fitting-says s (f .placed) ∙ allowed s (f .phase)
+  free-passes s f = fitting-says s (f .fits) ∙ allowed s (f .phase)
     where
       allowed : (s : Step) → a .opened ≡ phaseFor s → phased s ≡ none
       allowed begin o = rw o
@@ -125,17 +121,17 @@ module _ (a : Asked) where
 
   -- One number is given, or the step is free.
   abbrev pub Verdict : Type 0
-  Verdict = ((refusal : Refusal) × Given refusal a) ⊎ ((s : Step) × Free a s)
+  Verdict = ((refusal : Refusal) × Given a refusal) ⊎ ((s : Step) × Free a s)
 
   -- A read, a write or a try of an open handler is free, and of an idle one is given 14.
   late-decides : (s : Step) → Fitting a s → phaseFor s ≡ true → Late s → Verdict
   late-decides s p wanted late = by (a .opened)
-      (λ o. inr (s, record { placed = p; phase = o ∙ sym wanted }))
-      (λ o. inl (notOpen, (s, p, late, o)))
+      (λ o. inr (s, record { fits = p; phase = o ∙ sym wanted }))
+      (λ o. inl (notOpen, early s p late o))
 
   -- A step of a cell that there is, is given 13 or 14 or is free.
   phase-decides : (s : Step) → Fitting a s → Verdict
-  phase-decides begin p = by (a .opened) (λ o. inl (alreadyOpen, (p, o))) (λ o. inr (begin, record { placed = p; phase = o }))
+  phase-decides begin p = by (a .opened) (λ o. inl (alreadyOpen, twice p o)) (λ o. inr (begin, record { fits = p; phase = o }))
   phase-decides try p = late-decides try p refl tt
   phase-decides (read x) p = late-decides (read x) p refl tt
   phase-decides (write x) p = late-decides (write x) p refl tt
@@ -143,25 +139,25 @@ module _ (a : Asked) where
   -- A step that a handler asks for is given 12, 13 or 14 or is free.
   cell-decides : (s : Step) → Heard a s → Verdict
   cell-decides s h = by (isBeyond (a .cellCount) (known s))
-      (λ e. inl (noCell, (s, h, test-beyond (a .cellCount) s e)))
+      (λ e. inl (noCell, outside s h (test-beyond (a .cellCount) s e)))
       (λ e. phase-decides s (record { heard = h; cell = test-within (a .cellCount) s e }))
 
   -- What is asked of a well-formed register is given 15, 11, 12, 13 or 14 or is free.
   kind-decides : a .wellFormed ≡ true → (k : Kind) → a .kind ≡ k → Verdict
-  kind-decides e unknown q = inl (unknownStep, (e, q))
+  kind-decides e unknown q = inl (unknownStep, unlisted e q)
   kind-decides e (known s) q = by (leb (a .handlerCount) (a .handler))
-      (λ l. inl (noHandler, (s, e, q, leb-true (a .handlerCount) (a .handler) l)))
+      (λ l. inl (noHandler, unseated s e q (leb-true (a .handlerCount) (a .handler) l)))
       (λ l. cell-decides s (record { wellFormed = e; known = q; handler = leb-false (a .handlerCount) (a .handler) l }))
 
   -- Of every step one number is given, or it is free.
   pub verdict : Verdict
-  verdict = by (a .wellFormed) (λ e. kind-decides e (a .kind) refl) (λ e. inl (notWellFormed, e))
+  verdict = by (a .wellFormed) (λ e. kind-decides e (a .kind) refl) (λ e. inl (notWellFormed, malformed e))
 
 -- The checks of a step give each number exactly then.
-pub given-exactly : (a : Asked) (refusal : Refusal) → (firstHit (stepChecks a) ≡ some refusal) ↔ Given refusal a
+pub given-exactly : (a : Asked) (refusal : Refusal) → (firstHit (stepChecks a) ≡ some refusal) ↔ Given a refusal
 unfolding says
 given-exactly a refusal =
-    exactly (λ f. Given f a) (given-says a) (⊎-map (λ g. g) (λ f. free-passes a (f .0) (f .1)) (verdict a)) refusal
+    exactly (Given a) (given-says a) (⊎-map (λ g. g) (λ f. free-passes a (f .0) (f .1)) (verdict a)) refusal
 
 -- The checks of a step let it through exactly when it is free.
 pub free-exactly : (a : Asked) → (firstHit (stepChecks a) ≡ none) ↔ ((s : Step) × Free a s)
@@ -189,29 +185,20 @@ range-tested m n = simp (and-iff, leb-iff) (to, from)
 
 -- The checks of an opening give each number exactly then.
 pub opening-exactly : (m n long need : ℕ) (refusal : Refusal)
-    → (firstHit (openingChecks m n long need) ≡ some refusal) ↔ OpeningGiven refusal m n long need
+    → (firstHit (openingChecks m n long need) ≡ some refusal) ↔ OpeningGiven m n long need refusal
 unfolding firstHit openingChecks
-opening-exactly m n long need = exactly (λ f. OpeningGiven f m n long need) hits decided
+opening-exactly m n long need = exactly (OpeningGiven m n long need) hits decided
   where
     out : (InRange m n → ⊥) → inRange m n ≡ false
     out o = by (inRange m n) (λ e. absurd (o (range-tested m n .0 e))) (λ e. e)
 
-    hits : (f : Refusal) → OpeningGiven f m n long need → firstHit (openingChecks m n long need) ≡ some f
-    hits notWellFormed g = absurd g
-    hits noHandler g = absurd g
-    hits noCell g = absurd g
-    hits alreadyOpen g = absurd g
-    hits notOpen g = absurd g
-    hits unknownStep g = absurd g
-    hits outOfRange o = rw (out o)
-    hits tooShort (r, l) = rw (range-tested m n .1 r, lt-ltb long need l)
-    hits badFile g = absurd g
-    hits usedUp g = absurd g
-    hits tooManyCommits g = absurd g
+    hits : (f : Refusal) → OpeningGiven m n long need f → firstHit (openingChecks m n long need) ≡ some f
+    hits outOfRange (wrongCounts o) = rw (out o)
+    hits tooShort (wrongLength r l) = rw (range-tested m n .1 r, lt-ltb long need l)
 
-    decided : ((f : Refusal) × OpeningGiven f m n long need) ⊎ (firstHit (openingChecks m n long need) ≡ none)
+    decided : ((f : Refusal) × OpeningGiven m n long need f) ⊎ (firstHit (openingChecks m n long need) ≡ none)
     decided = by (inRange m n)
         (λ e. by (ltb long need)
-        (λ l. inl (tooShort, (range-tested m n .0 e, ltb-true long need l)))
+        (λ l. inl (tooShort, wrongLength (range-tested m n .0 e) (ltb-true long need l)))
         (λ l. inr (rw (e, l))))
-        (λ e. inl (outOfRange, λ r. both-ways (range-tested m n .1 r) e))
+        (λ e. inl (outOfRange, wrongCounts (λ r. both-ways (range-tested m n .1 r) e)))

@@ -15,7 +15,7 @@ use Rattle.rules.proofs.steps.Tables.{by, put-map}
 module _ {W U : Type 0} (f : W → U) where
   -- Each value mapped.
   abbrev pub mapSetting : Setting W → Setting U
-  mapSetting S = record { empty = f (S .empty); cellCount = S .cellCount }
+  mapSetting S = record { empty = f (S .empty); cellCount = S .cellCount; sheet = S .sheet }
 
   abbrev pub mapCell : Cell W → Cell U
   mapCell c = record { value = f (c .value); numbers = c .numbers }

@@ -19,8 +19,8 @@ pub read-back : {A B : Type 0} (number : A → B) (back : B → A) → ((a : A) 
 read-back number back same a b e = sym (same a) ∙ ap back e ∙ same b
 
 -- The reason of a number.
-reasonIs : ℕ → Reason
-reasonIs n = if eqb n 1 then torn else (if eqb n 2 then overtaken else spent)
+reasonBack : ℕ → Reason
+reasonBack n = if eqb n 1 then torn else (if eqb n 2 then overtaken else spent)
 
 -- The refusal of a number.
 refusalBack : ℕ → Refusal
@@ -33,14 +33,14 @@ refusalBack n =
     else tooManyCommits)))))))))
 
 -- The outcome of an answer in numbers.
-outcomeIs : Numbers → Outcome ℕ
-outcomeIs n =
+outcomeBack : Numbers → Outcome ℕ
+outcomeBack n =
     if eqb (n .kind) 0 then ok else (if eqb (n .kind) 1 then (value (n .detail))
-    else (if eqb (n .kind) 2 then committed else (aborted (reasonIs (n .detail)))))
+    else (if eqb (n .kind) 2 then committed else (aborted (reasonBack (n .detail)))))
 
 -- A reason comes back from its number.
-reason-back : (reason : Reason) → reasonIs (reasonNumber reason) ≡ reason
-unfolding reasonIs
+reason-back : (reason : Reason) → reasonBack (reasonNumber reason) ≡ reason
+unfolding reasonBack
 reason-back torn = refl
 reason-back overtaken = refl
 reason-back spent = refl
@@ -61,8 +61,8 @@ refusal-back usedUp = refl
 refusal-back tooManyCommits = refl
 
 -- An outcome comes back from its numbers.
-outcome-back : (outcome : Outcome ℕ) → outcomeIs (outcomeNumbers outcome) ≡ outcome
-unfolding outcomeIs
+outcome-back : (outcome : Outcome ℕ) → outcomeBack (outcomeNumbers outcome) ≡ outcome
+unfolding outcomeBack
 outcome-back ok = refl
 outcome-back (value v) = refl
 outcome-back committed = refl
@@ -70,7 +70,7 @@ outcome-back (aborted reason) = ap aborted (reason-back reason)
 
 -- No two reasons have the same number.
 pub reasons-apart : Injective reasonNumber
-reasons-apart = read-back reasonNumber reasonIs reason-back
+reasons-apart = read-back reasonNumber reasonBack reason-back
 
 -- No two refusals have the same number.
 pub refusals-apart : Injective refusalNumber
@@ -78,7 +78,7 @@ refusals-apart = read-back refusalNumber refusalBack refusal-back
 
 -- No two outcomes have the same kind and detail.
 pub outcomes-apart : Injective outcomeNumbers
-outcomes-apart = read-back outcomeNumbers outcomeIs outcome-back
+outcomes-apart = read-back outcomeNumbers outcomeBack outcome-back
 
 -- No outcome has the kind of a refusal.
 pub outcome-no-refusal : (outcome : Outcome ℕ) (refusal : Refusal) → outcomeNumbers outcome ≡ refusalNumbers refusal → ⊥

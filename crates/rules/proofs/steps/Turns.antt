@@ -52,18 +52,18 @@ module _ {W : Type 0} (S : Setting W) (n : ℕ) (wellFormed : Bool) (r : Registe
   gets = turn S n wellFormed r i code v
 
   -- A number that is given refuses the step, and nothing is changed.
-  pub given-turn : (refusal : Refusal) → Given refusal what → gets ≡ refusedTurn r refusal
+  pub given-turn : (refusal : Refusal) → Given what refusal → gets ≡ refusedTurn r refusal
   unfolding turn stepRefusal turned
   given-turn refusal g = rw (given-exactly what refusal .1 g)
 
   -- A step that is free is taken.
   pub free-turn : (s : Step) → Free what s → gets ≡ takenTurn S r i code v s
   unfolding turn stepRefusal turned
-  free-turn s f = rw (free-exactly what .1 (s, f), f .placed .heard .known)
+  free-turn s f = rw (free-exactly what .1 (s, f), f .fits .heard .known)
 
   -- A step is refused with each number exactly when it is given.
-  pub turn-given : (refusal : Refusal) → (gets .reply ≡ Reply.refused refusal) ↔ Given refusal what
-  turn-given = refused-exactly (λ refusal. Given refusal what) (λ refusal g. ap (λ t. t .reply) (given-turn refusal g))
+  pub turn-given : (refusal : Refusal) → (gets .reply ≡ Reply.refused refusal) ↔ Given what refusal
+  turn-given = refused-exactly (Given what) (λ refusal g. ap (λ t. t .reply) (given-turn refusal g))
       (⊎-map (λ g. g) (λ f. (_, ap (λ t. t .reply) (free-turn (f .0) (f .1)))) (verdict what))
 
   -- A refused step changes nothing.
@@ -72,7 +72,7 @@ module _ {W : Type 0} (S : Setting W) (n : ℕ) (wellFormed : Bool) (r : Registe
 
   -- What holds of every refusal with a number that is given, and of every step that is free and taken, holds of the turn.
   pub turn-cases : (Q : Turn W → Type 0)
-      → ((refusal : Refusal) → Given refusal what → Q (refusedTurn r refusal))
+      → ((refusal : Refusal) → Given what refusal → Q (refusedTurn r refusal))
       → ((s : Step) → Free what s → Q (takenTurn S r i code v s)) → Q gets
   turn-cases Q isRefused isTaken = decides (verdict what)
     where

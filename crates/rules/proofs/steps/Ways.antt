@@ -47,4 +47,4 @@ module _ {W : Type 0} (S : Setting W) (n : ℕ) (P : Register W → Type 0)
   pub turn-keeps : (r : Register W) → P r → (wellFormed : Bool) (i code : ℕ) (v : W) → P (turn S n wellFormed r i code v .after)
   turn-keeps r holds wellFormed i code v =
       turn-leaves S n wellFormed r i code v P holds
-      (λ s free. step-keeps r holds i (free .placed .heard .handler) s (free .placed .cell) v)
+      (λ s free. step-keeps r holds i (free .fits .heard .handler) s (free .fits .cell) v)

@@ -5,7 +5,7 @@ use mathlib.Core.Path.{_≡_}
 use mathlib.Core.Bool.{true, false}
 use mathlib.Core.List.{List, [], _∷_}
 use mathlib.Core.Logic.{_↔_}
-use Rattle.rules.specs.steps.Codes.{known, read, kindOf}
+use Rattle.rules.specs.steps.Codes.{known, read}
 use Rattle.rules.specs.steps.Replies.{torn, Outcome, aborted, Reply, reported}
 use Rattle.rules.specs.steps.Register.{Setting, Register, fresh}
 use Rattle.rules.specs.steps.Turn.{turn}
@@ -35,7 +35,7 @@ module _ {W : Type 0} (S : Setting W) (n : ℕ) where
   unfoldable pub moved : State W → Ask W → State W
   moved s a =
       let t = turn S n true (s .register) (a .handler) (a .code) (a .value) in
-      record { register = t .after; history = noteReply (s .history) (a .handler) (kindOf (a .code)) (a .value) (t .reply) }
+      record { register = t .after; history = noteReply (s .history) (a .handler) (S .sheet (a .code)) (a .value) (t .reply) }
 
   -- After a list of steps, the first asked for first.
   unfoldable pub run : State W → List (Ask W) → State W
@@ -52,7 +52,7 @@ reportedTo i code outcome = reported (record { handler = i; code = code; outcome
 pub record FirstRead {W : Type 0} (S : Setting W) (n : ℕ) (h : History W) (i code x : ℕ) : Type 0 where
   pub handler : i < n
   pub cell : x < S .cellCount
-  pub asks : kindOf code ≡ known (read x)
+  pub asks : S .sheet code ≡ known (read x)
   pub opened : h .opened i ≡ true
   pub unread : hasRead (h .now i) x ≡ false
   pub unwritten : hasWritten (h .now i) x ≡ false
@@ -67,7 +67,7 @@ pub record Consistent {W : Type 0} (S : Setting W) (n : ℕ) (r : Register W) (h
       → (turn S n true r i code v .reply ≡ reportedTo i code (aborted torn))
       ↔ Tears (h .commits) (h .now i) (writer (h .commits) x)
 
--- THE THIRD DEMAND, of every kind of value, number of cells, number of handlers, and list of steps from a fresh register.
+-- THE THIRD DEMAND, of every kind of value, number of cells, code sheet, number of handlers, and list of steps from a fresh register.
 abbrev pub ThirdDemand : Type 1
 ThirdDemand = (W : Type 0) (S : Setting W) (n : ℕ) (asks : List (Ask W))
     → Consistent S n (run S n (start S) asks .register) (run S n (start S) asks .history)

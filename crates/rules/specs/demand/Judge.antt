@@ -7,11 +7,11 @@ use mathlib.Core.Logic.{_↔_}
 use mathlib.Core.Option.{Option, none, some}
 use lib.Dec.{eqb}
 use Rattle.rules.specs.steps.Tables.{if_then_else_, put, someBelow}
-use Rattle.rules.specs.steps.Codes.{Step, begin, try, read, write, Kind, known, unknown, kindOf}
+use Rattle.rules.specs.steps.Codes.{Step, begin, try, read, write, Kind, known, unknown}
 use Rattle.rules.specs.steps.Replies.{Reason, torn, overtaken, spent, Outcome, ok, value, committed, aborted}
 use Rattle.rules.specs.steps.Replies.{Refusal, unknownStep, Reply}
 use Rattle.rules.specs.steps.Register.{Setting, Register}
-use Rattle.rules.specs.steps.Checks.{_when_, firstHit, Asked, stepChecks}
+use Rattle.rules.specs.steps.Checks.{_when_, firstHit, Asked, asking, stepChecks}
 use Rattle.rules.specs.steps.Turn.{turn}
 use Rattle.rules.specs.history.History.{Deed, look, again, set, Commit, History, someLook, hasRead, hasWritten}
 use Rattle.rules.specs.history.History.{placeAfter, writer, everyCommit}
@@ -79,15 +79,7 @@ module _ {W : Type 0} (S : Setting W) where
 
   -- What the checks of a step look at, as the history tells it of a register of n handlers.
   abbrev pub askedByHistory : ℕ → History W → ℕ → ℕ → Asked
-  askedByHistory n h i code =
-      record {
-        wellFormed = true;
-        cellCount = S .cellCount;
-        handlerCount = n;
-        handler = i;
-        kind = kindOf code;
-        opened = h .opened i;
-      }
+  askedByHistory n h i code = asking true (S .cellCount) n i (S .sheet code) (h .opened i)
 
   -- Refused, or else answered.
   unfoldable pub orAnswered : History W → ℕ → ℕ → Option Refusal → Kind → Reply W
@@ -97,7 +89,7 @@ module _ {W : Type 0} (S : Setting W) where
 
   -- The reply to what handler i asks for by a code, from the history alone.
   unfoldable pub judgement : ℕ → History W → ℕ → ℕ → Reply W
-  judgement n h i code = orAnswered h i code (firstHit (stepChecks (askedByHistory n h i code))) (kindOf code)
+  judgement n h i code = orAnswered h i code (firstHit (stepChecks (askedByHistory n h i code))) (S .sheet code)
 
 -- ── What is told ──────────────────────────────────────────────────────
 
@@ -115,7 +107,7 @@ pub record Told {W : Type 0} (S : Setting W) (n : ℕ) (r : Register W) (h : His
   -- each reply, refused or reported;
   pub replies : (i code : ℕ) (v : W) → turn S n true r i code v .reply ≡ judgement S n h i code
   -- abort 2, to a try of an open transaction, exactly when a version read is no longer the present one;
-  pub overtakenExactly : (i code : ℕ) (v : W) → i < n → kindOf code ≡ known try → h .opened i ≡ true
+  pub overtakenExactly : (i code : ℕ) (v : W) → i < n → S .sheet code ≡ known try → h .opened i ≡ true
       → (turn S n true r i code v .reply ≡ reportedTo i code (aborted overtaken)) ↔ Overtaken (h .commits) (h .now i)
   -- a cell's number for y: that of the latest version of y in the cell's writer and that one's past
   pub numbers : (x y : ℕ) → r .cells x .numbers y ≡ numberAmong (h .commits) (upTo (h .commits) (writer (h .commits) x)) y

@@ -34,6 +34,18 @@ pub record Asked : Type 0 where
   pub kind : Kind
   pub opened : Bool
 
+-- The one builder of what is asked: whether the words are well formed, of m cells and n handlers, by a handler, a kind of step, and
+-- whether that handler's transaction is open.
+abbrev pub asking : Bool → ℕ → ℕ → ℕ → Kind → Bool → Asked
+asking wellFormed m n handler kind opened = record {
+  wellFormed = wellFormed;
+  cellCount = m;
+  handlerCount = n;
+  handler = handler;
+  kind = kind;
+  opened = opened;
+}
+
 -- The code stands for no step.
 abbrev pub isUnknown : Kind → Bool
 isUnknown (known s) = false

@@ -1,4 +1,5 @@
--- Step codes: 0 begin, 1 try to commit, 32 to 63 read cell (code − 32), 64 to 95 write cell (code − 64); all others are unknown.
+-- Step codes, and the sheet that says what each stands for. Today there is one sheet, by ranges: 0 begin, 1 try to commit, 32 to 63
+-- read cell (code − 32), 64 to 95 write cell (code − 64); all others are unknown.
 use Prim.Native.Nat.{ℕ, _-_}
 use mathlib.Core.Bool.{Bool, _&&_}
 use lib.Dec.{eqb, leb}
@@ -14,12 +15,16 @@ pub data Kind : Type 0 where
   known : Step → Kind
   unknown : Kind
 
+-- A code sheet: what each step code stands for. The rules hold for every sheet.
+abbrev pub Sheet : Type 0
+Sheet = ℕ → Kind
+
 -- The code lies in the range from the first to the last.
 abbrev pub within : ℕ → ℕ → ℕ → Bool
 within first last code = leb first code && leb code last
 
--- The kind of a step code, for every number.
-unfoldable pub kindOf : ℕ → Kind
+-- The plain sheet, for every number.
+unfoldable pub kindOf : Sheet
 kindOf code =
     if eqb code 0 then (known begin)
     else (if eqb code 1 then (known try)

@@ -5,7 +5,6 @@ use mathlib.Core.Path.{_≡_}
 use mathlib.Core.Bool.{Bool, true, false}
 use Rattle.rules.specs.steps.Codes.{Step, begin, try, read, write, Kind, known, unknown}
 use Rattle.rules.specs.steps.Replies.{Refusal, notWellFormed, noHandler, noCell, alreadyOpen, notOpen, unknownStep, outOfRange, tooShort}
-use Rattle.rules.specs.steps.Replies.{badFile, usedUp, tooManyCommits}
 use Rattle.rules.specs.steps.Checks.{Asked}
 
 -- The step names no cell at m or above.
@@ -40,19 +39,20 @@ pub record Fitting (a : Asked) (s : Step) : Type 0 where
   pub heard : Heard a s
   pub cell : Within (a .cellCount) s
 
--- When a step is refused with each number. An opening's, a file's, an order place's and the judge's are given to no step.
-abbrev pub Given : Refusal → Asked → Type 0
-Given notWellFormed a = a .wellFormed ≡ false
-Given unknownStep a = (a .wellFormed ≡ true) × (a .kind ≡ unknown)
-Given noHandler a = (s : Step) × (a .wellFormed ≡ true) × (a .kind ≡ known s) × (a .handlerCount ≤ a .handler)
-Given noCell a = (s : Step) × Heard a s × Beyond (a .cellCount) s
-Given alreadyOpen a = Fitting a begin × (a .opened ≡ true)
-Given notOpen a = (s : Step) × Fitting a s × Late s × (a .opened ≡ false)
-Given outOfRange a = ⊥
-Given tooShort a = ⊥
-Given badFile a = ⊥
-Given usedUp a = ⊥
-Given tooManyCommits a = ⊥
+-- When a step is refused with each number:
+pub data Given (a : Asked) : Refusal → Type 0 where
+  -- 10 where the words are no well-formed register,
+  malformed : a .wellFormed ≡ false → Given a notWellFormed
+  -- 15 where they are, and the code stands for no step,
+  unlisted : a .wellFormed ≡ true → a .kind ≡ unknown → Given a unknownStep
+  -- 11 where it stands for one, and the handler is n or above,
+  unseated : (s : Step) → a .wellFormed ≡ true → a .kind ≡ known s → a .handlerCount ≤ a .handler → Given a noHandler
+  -- 12 where it is heard, and reads or writes cell m or above,
+  outside : (s : Step) → Heard a s → Beyond (a .cellCount) s → Given a noCell
+  -- 13 where it is a begin that fits, and a transaction is open,
+  twice : Fitting a begin → a .opened ≡ true → Given a alreadyOpen
+  -- and 14 where it is any other that fits, and none is
+  early : (s : Step) → Fitting a s → Late s → a .opened ≡ false → Given a notOpen
 
 -- The phase that a step wants: begin an idle handler, all others an open one.
 abbrev pub phaseFor : Step → Bool
@@ -63,7 +63,7 @@ phaseFor (write x) = true
 
 -- When the step s is taken.
 pub record Free (a : Asked) (s : Step) : Type 0 where
-  pub placed : Fitting a s
+  pub fits : Fitting a s
   pub phase : a .opened ≡ phaseFor s
 
 -- m is 1 to 32 and n is 1 to 16.
@@ -73,16 +73,9 @@ pub record InRange (m n : ℕ) : Type 0 where
   pub someHandler : 1 ≤ n
   pub handlers : n ≤ 16
 
--- When an opening is refused with each number: the buffer has so many words, and the register needs so many.
-abbrev pub OpeningGiven : Refusal → ℕ → ℕ → ℕ → ℕ → Type 0
-OpeningGiven notWellFormed m n long need = ⊥
-OpeningGiven noHandler m n long need = ⊥
-OpeningGiven noCell m n long need = ⊥
-OpeningGiven alreadyOpen m n long need = ⊥
-OpeningGiven notOpen m n long need = ⊥
-OpeningGiven unknownStep m n long need = ⊥
-OpeningGiven outOfRange m n long need = InRange m n → ⊥
-OpeningGiven tooShort m n long need = InRange m n × (long < need)
-OpeningGiven badFile m n long need = ⊥
-OpeningGiven usedUp m n long need = ⊥
-OpeningGiven tooManyCommits m n long need = ⊥
+-- When an opening is refused with each number, where the buffer has so many words, and the register needs so many:
+pub data OpeningGiven (m n long need : ℕ) : Refusal → Type 0 where
+  -- 20 where m or n is out of range,
+  wrongCounts : (InRange m n → ⊥) → OpeningGiven m n long need outOfRange
+  -- and 21 where they are in range, and the buffer is too short
+  wrongLength : InRange m n → long < need → OpeningGiven m n long need tooShort

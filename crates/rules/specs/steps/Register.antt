@@ -4,11 +4,17 @@ use Prim.Native.Nat.{ℕ}
 use mathlib.Core.Bool.{Bool, false, not}
 use lib.Dec.{eqb}
 use Rattle.rules.specs.steps.Tables.{put}
+use Rattle.rules.specs.steps.Codes.{Sheet}
 
--- What the rules are taken over: the value that an unwritten cell and a cleared copy hold, and the number of cells.
+-- What the rules are taken over: the value that an unwritten cell and a cleared copy hold, the number of cells, and the code sheet.
 pub record Setting (W : Type 0) : Type 0 where
   pub empty : W
   pub cellCount : ℕ
+  pub sheet : Sheet
+
+-- The rules over numbers, of m cells under a sheet: an unwritten cell and a cleared copy hold 0.
+abbrev pub numbersUnder : Sheet → ℕ → Setting ℕ
+numbersUnder sheet m = record { empty = 0; cellCount = m; sheet = sheet }
 
 -- A cell: its value, and its dependency numbers; the one for itself is its own number.
 pub record Cell (W : Type 0) : Type 0 where

@@ -3,10 +3,10 @@
 use Prim.Native.Nat.{ℕ}
 use mathlib.Core.Bool.{Bool}
 use mathlib.Core.Option.{Option, none, some}
-use Rattle.rules.specs.steps.Codes.{Kind, known, unknown, kindOf}
+use Rattle.rules.specs.steps.Codes.{Kind, known, unknown}
 use Rattle.rules.specs.steps.Replies.{Refusal, unknownStep, Reply, reported}
 use Rattle.rules.specs.steps.Register.{Setting, Register, hasOpen}
-use Rattle.rules.specs.steps.Checks.{Asked, firstHit, stepChecks}
+use Rattle.rules.specs.steps.Checks.{Asked, asking, firstHit, stepChecks}
 use Rattle.rules.specs.steps.Figure.{step}
 
 -- The reply to a step, and the register that it leaves.
@@ -16,14 +16,7 @@ pub record Turn (W : Type 0) : Type 0 where
 
 -- What is asked of a register of S's cells and n handlers by handler i with a code.
 abbrev pub asked : {W : Type 0} → Setting W → ℕ → Bool → Register W → ℕ → ℕ → Asked
-asked S n wellFormed r i code = record {
-  wellFormed = wellFormed;
-  cellCount = S .cellCount;
-  handlerCount = n;
-  handler = i;
-  kind = kindOf code;
-  opened = hasOpen (r .handlers i);
-}
+asked S n wellFormed r i code = asking wellFormed (S .cellCount) n i (S .sheet code) (hasOpen (r .handlers i))
 
 -- What the checks of a step say of it.
 unfoldable pub stepRefusal : {W : Type 0} → Setting W → ℕ → Bool → Register W → ℕ → ℕ → Option Refusal
@@ -39,4 +32,4 @@ turned S r i code v none (known s) =
 
 -- The turn of handler i with a step code and a value, on a register of S's cells and n handlers.
 unfoldable pub turn : {W : Type 0} → Setting W → ℕ → Bool → Register W → ℕ → ℕ → W → Turn W
-turn S n wellFormed r i code v = turned S r i code v (stepRefusal S n wellFormed r i code) (kindOf code)
+turn S n wellFormed r i code v = turned S r i code v (stepRefusal S n wellFormed r i code) (S .sheet code)
