@@ -8,9 +8,12 @@ pub mod generate;
 pub mod hexadecimal;
 pub mod histories;
 pub mod judge;
+pub mod lines;
 pub mod program;
 #[cfg(feature = "proved")]
 pub mod proved;
 pub mod random;
 pub mod register;
+pub mod runner;
 pub mod schedule;
+pub mod steps;

@@ -1,6 +1,8 @@
-//! The rows that are measured: words, a call on them, and the reply that it has to give.
+//! The rows that are measured: words, a call on them, and the reply that it has to give. There is a row for each way that a step or
+//! an opening can end.
 use reference::proved::packed;
 use reference::register::{self, Reply};
+use reference::steps;
 
 /// One call of either register.
 #[derive(Clone, Copy)]
@@ -21,16 +23,18 @@ pub struct Row {
 
 pub const SIZES: [(u32, u32); 3] = [(2, 2), (8, 4), (32, 16)];
 
-const BEGIN: u32 = 0;
-const TRY: u32 = 1;
+const BEGIN: u32 = steps::BEGIN.code as u32;
+const TRY: u32 = steps::TRY.code as u32;
 const TOO_LARGE: u32 = 65_536;
 
+/// The code that reads a cell.
 fn read(cell: u32) -> u32 {
-    32 + cell
+    steps::read(cell as u8).code.into()
 }
 
+/// The code that writes a cell.
 fn write(cell: u32) -> u32 {
-    64 + cell
+    steps::write(cell as u8, 0).code.into()
 }
 
 /// A register on its way to what a row needs. The last handler's step is measured, with the last cell.
@@ -52,10 +56,12 @@ impl State {
         state
     }
 
+    /// The handler whose step is measured.
     fn last_handler(&self) -> u32 {
         self.n - 1
     }
 
+    /// The cell that is measured.
     fn last_cell(&self) -> u32 {
         self.m - 1
     }
@@ -87,6 +93,7 @@ impl State {
         self
     }
 
+    /// A row of any call.
     fn row(self, name: &'static str, call: Call, reply: u64) -> Row {
         Row { m: self.m, n: self.n, name, words: self.words, call, reply }
     }

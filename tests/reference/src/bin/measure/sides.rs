@@ -1,4 +1,5 @@
-//! The two sides, called in the same way, checked against each other, counted and timed.
+//! The two sides, called in the same way, checked against each other, counted and timed. The reference's functions have names for C
+//! as the proved ones do, so that callgrind can tell where a call begins and ends.
 use crate::rows::{Call, Row};
 use reference::{proved, register};
 use std::hint::black_box;
@@ -27,6 +28,7 @@ pub extern "C" fn measure_mark() {
     black_box(());
 }
 
+/// A call of the proved register.
 #[inline(always)]
 fn ours(call: Call, words: &mut [u32]) -> u64 {
     match call {
@@ -35,6 +37,7 @@ fn ours(call: Call, words: &mut [u32]) -> u64 {
     }
 }
 
+/// A call of the reference's.
 #[inline(always)]
 fn theirs(call: Call, words: &mut [u32]) -> u64 {
     match call {
