@@ -11,6 +11,20 @@ pub enum Reply {
     Refused(u32),
 }
 
+impl Reply {
+    /// The reply in one number, as the functions for C give it: kind · 2^32 + value, reason or number.
+    pub fn packed(self) -> u64 {
+        let (kind, detail) = match self {
+            Reply::Ok => (0, 0),
+            Reply::Value(value) => (1, value),
+            Reply::Commit => (2, 0),
+            Reply::Abort(reason) => (3, reason),
+            Reply::Refused(number) => (4, number),
+        };
+        (kind << 32) | u64::from(detail)
+    }
+}
+
 /// What a code stands for, with its cell.
 enum Step {
     Begin,

@@ -113,7 +113,7 @@ fn steps(random: &mut Random, words: &[u32], count: u64) -> u64 {
         };
         let (code, value) = (code(random, before.first().copied().unwrap_or(1)), random.word());
         let reply = proved::step(&mut ours, handler, code, value);
-        let expected = proved::packed(register::step(&mut theirs, handler, code, value));
+        let expected = register::step(&mut theirs, handler, code, value).packed();
         let call = format_args!("step: handler {handler} code {code} value {value}");
         demand(call, &before, (reply, &ours), (expected, &theirs));
     }

@@ -1,6 +1,5 @@
 //! The rows that are measured: words, a call on them, and the reply that it has to give. There is a row for each way that a step or
 //! an opening can end.
-use reference::proved::packed;
 use reference::register::{self, Reply};
 use reference::steps;
 
@@ -101,7 +100,7 @@ impl State {
     /// A row of the measured handler's step.
     fn step(self, name: &'static str, code: u32, reply: Reply) -> Row {
         let handler = self.last_handler();
-        self.row(name, Call::Step { handler, code, value: 7 }, packed(reply))
+        self.row(name, Call::Step { handler, code, value: 7 }, reply.packed())
     }
 }
 
@@ -138,7 +137,7 @@ fn refused(lived: &State) -> Vec<Row> {
         state().with(last_number, TOO_LARGE).step("refused 10, the last number too large", BEGIN, Reply::Refused(10)),
         state().with(3, TOO_LARGE).step("refused 10, the first number too large", BEGIN, Reply::Refused(10)),
         short.step("refused 10, a word too few", BEGIN, Reply::Refused(10)),
-        state().row("refused 11", Call::Step { handler: n, code: BEGIN, value: 7 }, packed(Reply::Refused(11))),
+        state().row("refused 11", Call::Step { handler: n, code: BEGIN, value: 7 }, Reply::Refused(11).packed()),
     ];
     // With 32 cells every code of a read or a write names one, so there is no such refusal.
     if m < 32 {

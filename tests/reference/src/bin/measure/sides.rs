@@ -18,7 +18,7 @@ pub extern "C" fn reference_open(words: *mut u32, long: usize, m: u32, n: u32) -
 #[inline(never)]
 pub extern "C" fn reference_step(words: *mut u32, long: usize, handler: u32, code: u32, value: u32) -> u64 {
     let words = unsafe { std::slice::from_raw_parts_mut(words, long) };
-    proved::packed(register::step(words, handler, code, value))
+    register::step(words, handler, code, value).packed()
 }
 
 /// Where a count of instructions ends: callgrind writes one down whenever this is called.
