@@ -30,7 +30,7 @@ fn show_cells(words: &[u32], cells: u32) {
 
 // The judged run of a file that is sound.
 fn judge_run(file: &[u8], handlers: u32, cells: u32) {
-    let mut words = [0u32; 5346];
+    let mut words = [0u32; limits::LEDGER_WORDS];
     let Opened::Ready = judge::open(&mut words, cells, handlers) else {
         return;
     };

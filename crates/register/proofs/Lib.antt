@@ -1,6 +1,4 @@
 -- Laws of the register.
-pub mod Refusing
 pub mod Opening
-pub mod Taking
 pub mod Stepping
 pub mod Tight

@@ -1,2 +1,2 @@
--- What the enum of this crate means, and what is asked of words.
+-- What the enum of this crate means.
 pub mod Meaning

@@ -25,7 +25,7 @@ fn show_cells(words: &[u32], cells: u32) {
 
 // The run of a file that is sound.
 fn run_file(file: &[u8], handlers: u32, cells: u32) {
-    let mut words = [0u32; 2642];
+    let mut words = [0u32; limits::REGISTER_WORDS];
     let Opened::Ready = register::open(&mut words, cells, handlers) else {
         return;
     };

@@ -1,3 +1,4 @@
+-- For internal contracts alone: what our own functions are called with and leave. Nothing here need be believed.
 -- What the functions inside this crate say: how many bytes a step takes, what stands in front of what is left of a script, and
 -- what an order place names.
 use Prim.Native.Nat.{ℕ, _+_, _≤_, _<_}

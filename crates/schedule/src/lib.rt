@@ -1,7 +1,7 @@
 // The schedule file: its admission, a handler's script as a part of it, the next step at an order place, and what a run of it shows.
 // PUBLIC: nothing here has a `requires`. Each promise fixes the reply for every file, whatever its bytes and its length.
-mod sound;
 mod scripts;
+mod sound;
 mod table;
 mod taking;
 
@@ -33,7 +33,7 @@ pub enum Found {
 
 // Of each handler, the place in its script up to which it is used up.
 pub struct Cursors {
-    pub at: [usize; 16],
+    pub at: [usize; limits::HANDLER_TABLE],
 }
 
 // What comes next at an order place.
@@ -123,7 +123,9 @@ pub fn script(file: &[u8], handler: u32) -> &[u8]
 pub fn at_start() -> Cursors
     ensures { λ r. ⌜ r .at ≡ atStart ⌝ }
 {
-    Cursors { at: [0; 16] }
+    Cursors {
+        at: [0; limits::HANDLER_TABLE],
+    }
 }
 
 // The next step at an order place.

@@ -26,13 +26,12 @@ writer-of-spec =
     (λ c. (omega arith, omega arith, λ m inside. sym (writer-none m _ _ inside)))
     -- the row
     (λ c. omega arith)
-    (λ c. omega arith)
     (λ c κs. omega arith)
     -- one more turn
     (λ c. omega arith)
     (λ c. omega arith)
     (λ c. let loop = c .before .before .before .loop in
-    let row = c .before .wrote .ensures in (
+    let row = c .before .commit-wrote .ensures in (
       omega arith,
       ⊎-elim (λ wrote. omega arith) (λ other. omega arith) (c .if1 .came),
       λ m inside. ⊎-elim

@@ -1,4 +1,4 @@
--- `steps::verdict_of` meets its contract: the checks are asked in their order, and the first that holds answers.
+-- `checks::verdict_of` meets its contract: the checks are asked in their order, and the first that holds answers.
 use Prim.Native.Nat.{_<_}
 use mathlib.Core.Path.{_≡_, refl, sym, ap₂, _∙_}
 use mathlib.Core.Bool.{Bool, false}

@@ -37,17 +37,19 @@ step-spec =
     (λ c. omega (arith, well-long (formed (c .before .before))))
     (λ c. omega (arith, formed (c .before .before) .range .handlers))
     -- the body is lent
-    (λ c. omega (arith, well-long (formed (c .before .before))))
-    (λ c. omega (arith, well-long (formed (c .before .before))))
+    (λ c κs. search needs)
+    (λ c. omega (arith, well-long (formed (c .before .before .before))))
+    (λ c. omega (arith, well-long (formed (c .before .before .before))))
     (λ c. search needs)
-    (λ c κs. let tested = c .before .before .before in
-    rw (behind-is 2 (tested .before .before .before .before .args .words .now)) (stands (formed tested)))
+    (λ c κs. let kind = c .before in
+    let tested = kind .before .before .before in
+    (rw (behind-is 2 (tested .before .before .before .before .args .words .now)) (stands (formed tested)), kind .kind-of .ensures))
     (λ c. search needs)
-    (λ c. let tested = c .before .before .before .before .before .before in
+    (λ c. let tested = c .before .before .before .before .before .before .before in
     let args = tested .before .before .before .before .args in
     let words = args .words .now in
-    let left = c .before .before .step-body .last .0 in
+    let left = c .before .before .turn .last .0 in
     rw (register-back words (omega (arith, well-long (formed tested))) left)
     (body-steps words (args .handler) (args .code) (args .value) (passed tested)
-    (subst (λ body. BodyPromise (cellsOf words) (handlersOf words) body (args .handler) (args .code) (args .value) (replyIs (c .before .before .step-body .result)) left)
-    (behind-is 2 words) (c .before .before .step-body .ensures)))))
+    (subst (λ body. BodyPromise (cellsOf words) (handlersOf words) body (args .handler) (args .code) (args .value) (replyIs (c .before .before .turn .result)) left)
+    (behind-is 2 words) (c .before .before .turn .ensures)))))
