@@ -55,14 +55,15 @@ pub fn cell_end(words: &[u32], c: u32) -> End
     if !formed::well_formed(words) {
         return End::Missing;
     }
-    if words[0] <= c {
+    if words[places::CELLS] <= c {
         return End::Missing;
     }
-    let m = words[0] as usize;
+    let m = words[places::CELLS] as usize;
     let k = c as usize;
-    let start = 2 + k * (m + 1);
+    let span = places::cell_at(m, k);
+    let start = limits::FRONT + span.start;
     End::Cell {
-        value: words[start],
-        number: words[start + 1 + k],
+        value: words[start + places::VALUE],
+        number: words[start + places::NUMBERS + k],
     }
 }
