@@ -17,7 +17,7 @@ use Rattle.promises.proofs.Leaves.{opening-ready}
 use Rattle.schedule.specs.Bytes.{byteAt}
 use Rattle.schedule.specs.Sound.{handlersIn, cellsIn, scriptIn, orderIn, isSoundFile}
 use Rattle.schedule.specs.Scripts.{ScriptStep, stepsOf}
-use Rattle.schedule.specs.Admitting.{fileRefusal, judged, admissionOf, GoodFile}
+use Rattle.schedule.specs.Admitting.{fileRefusal, admitted, admissionOf, GoodFile}
 use Rattle.schedule.proofs.Sounds.{file-tested}
 use Rattle.schedule.proofs.Admits.{good-exactly}
 use Rattle.schedule.specs.Taking.{Cursors, cursorOf, atStart, Next, nextOf, namedNext, cursorsAfter}
@@ -90,7 +90,7 @@ whole-steps (some steps) e = refl
 pub run-of-places : (file : List ℕ) {before words : List ℕ} → fileRefusal file ≡ none
     → OpeningPromise before (cellsIn file) (handlersIn file) ready words
     → runOf file ≡ ran (handlersIn file) (cellsIn file) (shownFrom file (length (orderIn file)) atStart 0 words)
-unfolding runOf admissionOf judged playedBy started
+unfolding runOf admissionOf admitted playedBy started
 run-of-places file {words = words} free opening =
     let run = places-run file (file-tested file .1 (good .sound)) (orderIn file) 0 atStart words (started file (cellsIn file)) refl along in
     rw free (ap (ran (handlersIn file) (cellsIn file)) (sym run))
@@ -114,5 +114,5 @@ run-of-places file {words = words} free opening =
 
 -- A file that is refused runs nothing.
 pub refused-run : (file : List ℕ) {refusal : Refusal} → fileRefusal file ≡ some refusal → runOf file ≡ Played.refused refusal
-unfolding runOf admissionOf judged playedBy
+unfolding runOf admissionOf admitted playedBy
 refused-run file e = rw e
