@@ -6,7 +6,7 @@ use mathlib.Core.Path.{_≡_, refl, sym, ap, _∙_, subst}
 use mathlib.Core.Bool.{true, false}
 use mathlib.Core.List.{List}
 use borrow.Author.Tests.{le-leb, lt-leb}
-use Rattle.rules.specs.steps.Codes.{kindOf}
+use Rattle.rules.specs.steps.Codes.{plainSheet}
 use Rattle.rules.specs.steps.Replies.{tooManyCommits, Reply}
 use Rattle.rules.specs.history.History.{History, noteReply}
 use Rattle.rules.specs.demand.Demand.{Ask}
@@ -73,7 +73,7 @@ module _ {m n : ℕ} {words ledger : List ℕ} (beside : Beside m n words ledger
       asks = _;
       history = _;
       run = stepped asked (beside .run) promise;
-      says = subst (λ said. Says m n (wordsBy theJudge ledger i step) (noteReply (beside .history) i (kindOf (step .code)) (step .value) said)) alike
+      says = subst (λ said. Says m n (wordsBy theJudge ledger i step) (noteReply (beside .history) i (plainSheet (step .code)) (step .value) said)) alike
           (says-after (beside .says) i (step .code) (step .value));
     }
       where

@@ -4,7 +4,7 @@ use mathlib.Core.Path.{_≡_, refl, sym, ap, _∙_}
 use mathlib.Core.List.{List}
 use lib.ListN.{length}
 use Rattle.rules.specs.steps.Tables.{if_then_else_}
-use Rattle.rules.specs.steps.Codes.{Step, begin, try, read, write, known, kindOf}
+use Rattle.rules.specs.steps.Codes.{Step, begin, try, read, write, known, plainSheet}
 use Rattle.rules.specs.steps.Replies.{Outcome, ok, value, committed, aborted, Reply}
 use Rattle.rules.specs.history.History.{History, note, noteOk, noteValue, noteCommit, noteAbort, doing, ended, noteReply}
 use Rattle.rules.proofs.history.Alike.{length-same}
@@ -43,16 +43,16 @@ commits-noted words = commits-count (cellsOf words) words (commitsNoted words)
 
 module _ {words : List ℕ} (ledger : Ledger words) (i code v : ℕ) where
   -- The history with the judge's reply noted has one commit more where the reply reports one,
-  reply-counts : length (noteReply (historyIn words) i (kindOf code) v (judgedReply words i code) .commits)
+  reply-counts : length (noteReply (historyIn words) i (plainSheet code) v (judgedReply words i code) .commits)
       ≡ counted (length (historyIn words .commits)) (judgedReply words i code)
   unfolding noteReply
   reply-counts = reply-cases ledger i code
-      (λ reply. length (noteReply (historyIn words) i (kindOf code) v reply .commits) ≡ counted (length (historyIn words .commits)) reply)
-      (λ refusal. ap (λ h. length (h .commits)) (note-refused (historyIn words) i (kindOf code) v refusal))
+      (λ reply. length (noteReply (historyIn words) i (plainSheet code) v reply .commits) ≡ counted (length (historyIn words .commits)) reply)
+      (λ refusal. ap (λ h. length (h .commits)) (note-refused (historyIn words) i (plainSheet code) v refusal))
       (λ s free room. rw (free .fits .heard .known) (note-counts (historyIn words) i s v _))
 
   -- and so has the judge.
-  pub judge-counts : commitsNoted (noteWords words i (kindOf code) v (judgedReply words i code))
+  pub judge-counts : commitsNoted (noteWords words i (plainSheet code) v (judgedReply words i code))
       ≡ counted (commitsNoted words) (judgedReply words i code)
   judge-counts =
       sym (commits-noted _) ∙ sym (length-same (reply-noted ledger i code v .commits)) ∙ reply-counts

@@ -1,3 +1,4 @@
+-- For internal contracts alone: what our own functions are called with and leave. Nothing here need be believed.
 -- What the functions over a handler's block require and do. A row of 32 words stands for a table of numbers; the tests of a try
 -- and of a first read are those of the rules, with the cells' own numbers given as such a table.
 use Prim.Native.Nat.{ℕ, _+_, _≤_, max}

@@ -2,7 +2,7 @@
 use mathlib.Core.Path.{_≡_, refl}
 use mathlib.Core.List.{map}
 use Rattle.rules.specs.steps.Tables.{put, orElse, lowest, someBelow}
-use Rattle.rules.specs.steps.Codes.{kindOf}
+use Rattle.rules.specs.steps.Codes.{plainSheet}
 use Rattle.rules.specs.steps.Register.{withHandler, idle, blank, fresh}
 use Rattle.rules.specs.steps.Checks.{firstHit, stepChecks, inRange, openingChecks}
 use Rattle.rules.specs.steps.Figure.{joined, taken, wrote, shown, stamped, stored, begun, isTorn, isOvertaken, isSpent}
@@ -22,7 +22,7 @@ pub all-cases : map made cases ≡ map said cases
 unfolding made said playFrom playLines openingNumbers saidReplies saidCounts saidWords joinRows cases
     openingRefusal openingReply openingWords turnOf stepWords
     everyBelow numbersFit isGoodBlock isGoodBody isWellFormed viewCell viewHandler view pourCell pourHandler pour
-    hasBit mask row rows below put orElse lowest someBelow kindOf
+    hasBit mask row rows below put orElse lowest someBelow plainSheet
     withHandler idle blank fresh firstHit stepChecks inRange openingChecks
     joined taken wrote shown stamped stored begun isTorn isOvertaken isSpent aborting committing
     unlessAborted readChecks tryChecks firstRead reading trying step stepRefusal turned turn

@@ -6,7 +6,7 @@ use native.Mathlib.Omega.{arith}
 use lib.Dec.{ltb}
 use lib.ListN.{getD}
 use Rattle.rules.specs.steps.Tables.{if_then_else_, put, orElse, lowest, someBelow}
-use Rattle.rules.specs.steps.Codes.{kindOf}
+use Rattle.rules.specs.steps.Codes.{plainSheet}
 use Rattle.rules.specs.steps.Replies.{Reason, Outcome, ok, committed, aborted, Refusal, Report, Reply, reported, refused, outcomeNumbers, replyNumbers}
 use Rattle.rules.specs.steps.Register.{Register, Handler, Cell, withHandler, idle}
 use Rattle.rules.specs.steps.Checks.{firstHit, stepChecks, inRange}
@@ -46,7 +46,7 @@ record OneTransaction : Type 0 where
 computed : OneTransaction
 unfolding inPhase turnOf stepWords
     everyBelow numbersFit isGoodBlock isGoodBody isWellFormed viewCell viewHandler view pourCell pourHandler pour
-    hasBit mask row rows below put orElse lowest someBelow kindOf withHandler idle firstHit stepChecks inRange
+    hasBit mask row rows below put orElse lowest someBelow plainSheet withHandler idle firstHit stepChecks inRange
     stamped stored begun isOvertaken isSpent aborting committing unlessAborted tryChecks trying step stepRefusal turned turn
 computed = record { begun = refl; phase = refl; tried = refl }
 
@@ -116,7 +116,7 @@ record TwoCells : Type 0 where
 two-cells : TwoCells
 unfolding bothWritten onePass storedAtOnce turnOf stepWords
     everyBelow numbersFit isGoodBlock isGoodBody isWellFormed viewCell viewHandler view pourCell pourHandler pour
-    hasBit mask row rows below put orElse lowest someBelow kindOf withHandler idle firstHit stepChecks inRange
+    hasBit mask row rows below put orElse lowest someBelow plainSheet withHandler idle firstHit stepChecks inRange
     stamped stored begun isOvertaken isSpent aborting committing unlessAborted tryChecks trying step stepRefusal turned turn
 two-cells = record { tried = refl; raised = refl; missed = refl }
 

@@ -1,10 +1,7 @@
--- What the enums of this crate mean in the rules, the kind of a code and the checks' verdict, and what the checks are asked.
-use Prim.Native.Nat.{ℕ}
-use mathlib.Core.Bool.{Bool, true}
+-- What the enums of this crate mean in the rules: the kind of a code, and the checks' verdict.
 use mathlib.Core.Option.{Option, none, some}
 use Rattle.rules.specs.steps.Codes as Codes
 use Rattle.rules.specs.steps.Replies as Rules
-use Rattle.rules.specs.steps.Checks.{Asked}
 use Rattle.replies.specs.Meaning.{refusalIs}
 use Rattle.checks.specs.declared.Kind.{Kind}
 use Rattle.checks.specs.declared.Kind.the-variants.{Begin, Try, Read, Write, Unknown}
@@ -23,14 +20,3 @@ kindIs Unknown = Codes.unknown
 abbrev pub verdictIs : Verdict → Option Rules.Refusal
 verdictIs Passes = none
 verdictIs (Refuses refusal) = some (refusalIs refusal)
-
--- What is asked in plain values: there are m cells and n handlers, so nothing is malformed, and the handler is open or not.
-abbrev pub askedPlainly : ℕ → ℕ → ℕ → Codes.Kind → Bool → Asked
-askedPlainly m n handler kind opened = record {
-  wellFormed = true;
-  cellCount = m;
-  handlerCount = n;
-  handler = handler;
-  kind = kind;
-  opened = opened;
-}

@@ -1,30 +1,21 @@
--- What is answered of m and n, and of whole words: no where something does not hold, and in the end whether there was no fault.
+-- What is answered of whole words: no where something does not hold, and in the end whether there was no fault.
 use Prim.Native.Nat.{ℕ, _+_, _≤_, _<_}
-use mathlib.Core.Path.{_≡_, sym}
-use mathlib.Core.Bool.{Bool, true, false}
+use mathlib.Core.Path.{_≡_}
+use mathlib.Core.Bool.{true, false}
 use mathlib.Core.List.{List}
 use native.Mathlib.Omega.{arith}
 use lib.Dec.{eqb}
 use lib.ListN.{length}
 use borrow.Author.Tests.{eqb-true, eq-eqb}
 use Rattle.rules.specs.steps.Checks.{inRange}
-use Rattle.rules.specs.steps.Given.{InRange}
-use Rattle.rules.proofs.steps.Given.{range-tested}
-use Rattle.rules.proofs.steps.Tables.{by, same-test}
+use Rattle.rules.proofs.steps.Tables.{same-test}
+use Rattle.limits.proofs.Ranges.{answers-no}
 use Rattle.layout.specs.Places.{cellsOf, handlersOf, bodyOf, bodyLong, cellPart, handlerPart, numberIn, phaseIn}
 use Rattle.layout.specs.WellFormed.{GoodBlock, WellFormed, isGoodBody, isWellFormed}
 use Rattle.layout.proofs.Tested.{body-iff, tested}
 use Rattle.formed.specs.Faults.{Faults}
 use Rattle.formed.proofs.Gathers.{EachBelow, faults-both}
 use Rattle.formed.proofs.Parts.{Fit}
-
--- A test that cannot hold answers no.
-pub answers-no : (test : Bool) → (test ≡ true → ⊥) → false ≡ test
-answers-no test never = by test (λ e. absurd (never e)) sym
-
--- What is not in range is answered with no.
-pub out-of-range : (m n : ℕ) → (InRange m n → ⊥) → false ≡ inRange m n
-out-of-range m n out = answers-no (inRange m n) (λ e. out (range-tested m n .0 e))
 
 -- Words that are not well formed are answered with no.
 pub not-formed : (words : List ℕ) → (WellFormed words → ⊥) → false ≡ isWellFormed words

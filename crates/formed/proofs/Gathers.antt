@@ -94,19 +94,6 @@ module _ (each : ℕ) (Good : ℕ → Type 0) where
 pub number-faults : (word : ℕ) → word < 2 ^ 32 → Faults 65535 (word ≤ 65535) (word / 65536)
 number-faults word fits = omega arith
 
--- The faults of a phase: how far it lies above 1.
-pub phase-faults : (last word : ℕ) → word < 2 ^ 32 → Faults 4294967295 (word ≤ last) (word / (last + 1))
-phase-faults last word fits = record { small = omega (arith, div-le-self word (last + 1)); none = (to, from) }
-  where
-    below : (word / (last + 1) < 1) ↔ (word < 1 * (last + 1))
-    below = div-lt-iff-lt-mul (omega arith)
-
-    to : word / (last + 1) ≡ 0 → word ≤ last
-    to e = omega (arith, below .0 (omega (arith, e)))
-
-    from : word ≤ last → word / (last + 1) ≡ 0
-    from h = omega (arith, below .1 (omega (arith, h)))
-
 -- The faults of a set of m cells: what its bits from m on say.
 pub set-faults : (m word : ℕ) → word < 2 ^ 32 → Faults 4294967295 (NoBitFrom m word) (word / 2 ^ m)
 set-faults m word fits = record {

@@ -12,21 +12,22 @@ use Rattle.ledger.specs.Noting.{emptyEntry, writtenEntry, noteOutcome, noteWord
 use Rattle.ledger.specs.Promises.{isCommit, limited}
 use Rattle.ledger.proofs.Steps.{room-for}
 use Rattle.judge.specs.Taking.{answerOf, HasRoom, TakesNoted, Passes}
+use Rattle.judge.proofs.Answers.{in-row}
 use Rattle.judge.proofs.Tests.{tooMany}
 
 -- ── Taken ─────────────────────────────────────────────────────────────
 
 -- A begin is taken by emptying the handler's row,
-pub takes-begin : (words : List ℕ) (i v : ℕ) {after : List ℕ} → after ≡ withEntry words (handlerRow i) (emptyEntry 1)
+pub takes-begin : (words : List ℕ) (i v : ℕ) {row : ℕ} {after : List ℕ} → row ≡ handlerRow i → after ≡ withEntry words row (emptyEntry 1)
     → TakesNoted words i begin v ok after
 unfolding answer noteOutcome
-takes-begin words i v left = record { replied = refl; left = left }
+takes-begin words i v there left = record { replied = refl; left = in-row words i (λ _. emptyEntry 1) there left }
 
 -- and a write by noting it there.
-pub takes-write : (words : List ℕ) (i x v : ℕ) {after : List ℕ}
-    → after ≡ withEntry words (handlerRow i) (writtenEntry (entryIn words (handlerRow i)) x v) → TakesNoted words i (write x) v ok after
+pub takes-write : (words : List ℕ) (i x v : ℕ) {row : ℕ} {after : List ℕ} → row ≡ handlerRow i
+    → after ≡ withEntry words row (writtenEntry (entryIn words row) x v) → TakesNoted words i (write x) v ok after
 unfolding answer noteOutcome
-takes-write words i x v left = record { replied = refl; left = left }
+takes-write words i x v there left = record { replied = refl; left = in-row words i (λ e. writtenEntry e x v) there left }
 
 -- ── Passed ────────────────────────────────────────────────────────────
 

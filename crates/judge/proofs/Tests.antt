@@ -1,6 +1,6 @@
 -- What the judge reads off its words before a step.
 use Prim.Native.Nat.{ℕ, _+_, _*_, _≤_, _<_}
-use mathlib.Core.Path.{_≡_, refl, sym}
+use mathlib.Core.Path.{_≡_, refl, sym, ap, _∙_}
 use mathlib.Core.Bool.{Bool, true, false, not, _&&_, _||_, and-false}
 use mathlib.Core.List.{List}
 use lib.ListN.{length, getD}
@@ -15,7 +15,7 @@ use Rattle.rules.specs.history.History.{Deed, Commit, hasRead, hasWritten, writ
 use Rattle.rules.specs.history.Past.{tears}
 use Rattle.rules.specs.demand.Judge.{orAborted, answerRead, answer}
 use Rattle.rules.proofs.steps.Tables.{by}
-use Rattle.layout.specs.Places.{cellsOf, handlersOf}
+use Rattle.layout.specs.Places.{cellsOf, handlersOf, rowStart}
 use Rattle.layout.specs.View.{wordSetting}
 use Rattle.layout.proofs.Rows.{below-beyond}
 use Rattle.ledger.specs.Entries.{ledgerLong, mostCommits, commitsNoted, Ledger, isLedger, handlerRow, entryIn}
@@ -52,10 +52,11 @@ beyond-idle words handler outside =
     sym (below-beyond (handlersOf words) false (λ i. isOpen (entryIn words (handlerRow i))) handler outside)
 
 -- and of each the first word of its row says it.
-pub phase-told : {words : List ℕ} {handler : ℕ} → Ledger words → handler < handlersOf words
-    → not (eqb (getD words ((1 + handler) * 66) 0) 0) ≡ historyIn words .opened handler
+pub phase-told : {words : List ℕ} {handler row at : ℕ} → row ≡ handlerRow handler → at ≡ rowStart row → Ledger words → handler < handlersOf words
+    → not (eqb (getD words at 0) 0) ≡ historyIn words .opened handler
 unfolding entryIn
-phase-told ledger seat = sym (opened-is ledger seat)
+phase-told {words} there placed ledger seat =
+    ap (λ (k : ℕ). not (eqb (getD words k 0) 0)) (placed ∙ ap rowStart there) ∙ sym (opened-is ledger seat)
 
 -- ── One commit too many ───────────────────────────────────────────────
 

@@ -1,4 +1,5 @@
--- For the judge's own functions alone: what they require, and that they answer and note as the rules' definitions say.
+-- For internal contracts alone: what our own functions are called with and leave. Nothing here need be believed.
+-- What the judge's steps require, and that they answer and note as the rules' definitions say.
 use Prim.Native.Nat.{ℕ, _<_}
 use mathlib.Core.Path.{_≡_}
 use mathlib.Core.Bool.{true}

@@ -22,22 +22,22 @@ use replies::Refusal;
 pub fn words_needed() -> usize
     ensures { λ r. ⌜ r ≡ ledgerLong ⌝ }
 {
-    5346
+    limits::LEDGER_WORDS
 }
 
 // Opens a ledger for m cells and n handlers in front of the words.
 pub fn open(words: &mut [u32], m: u32, n: u32) -> Opened
     ensures { λ r. ⌜ LedgerPromise (now (words .entry)) m n (openingIs r) (now (words .exit)) ⌝ }
 {
-    if !formed::in_range(m, n) {
+    if !limits::in_range(m, n) {
         return Opened::Rejected(Refusal::OutOfRange);
     }
-    if words.len() < 5346 {
+    if words.len() < limits::LEDGER_WORDS {
         return Opened::Rejected(Refusal::TooShort);
     }
-    words::clear(words, 2, 5344);
-    words[0] = m;
-    words[1] = n;
+    words::clear(words, limits::FRONT, limits::LEDGER_BEHIND);
+    words[places::CELLS] = m;
+    words[places::HANDLERS] = n;
     Opened::Ready
 }
 
@@ -50,7 +50,13 @@ pub fn step(words: &mut [u32], handler: u32, code: u32, value: u32) -> Answer
     }
     let kind = checks::kind_of(code);
     let opened = is_open(words, handler);
-    let verdict = checks::verdict_of(words[0] as usize, words[1], handler, kind, opened);
+    let verdict = checks::verdict_of(
+        words[places::CELLS] as usize,
+        words[places::HANDLERS],
+        handler,
+        kind,
+        opened,
+    );
     match verdict {
         Verdict::Refuses(refusal) => Answer::Refused(refusal),
         Verdict::Passes => pass(words, handler, code, kind, value),
@@ -64,11 +70,11 @@ pub fn cell_end(words: &[u32], c: u32) -> End
     if !is_ledger(words) {
         return End::Missing;
     }
-    if words[0] <= c {
+    if words[places::CELLS] <= c {
         return End::Missing;
     }
     let x = c as usize;
-    let count = words[2] as usize;
+    let count = words[places::COMMITS_NOTED] as usize;
     let version = answers::present_version(words, x, count);
     End::Cell {
         value: answers::present_value(words, x, count),

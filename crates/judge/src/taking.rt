@@ -19,11 +19,12 @@ fn read(words: &mut [u32], m: usize, i: usize, x: usize) -> Outcome
     requires { ⌜ JudgeReady (now words) m i (read x) ⌝ }
     ensures { λ r. ⌜ ((v : ℕ) → TakesNoted (now (words .entry)) i (read x) v (outcomeIs r) (now (words .exit))) ⌝ }
 {
-    let row = 1 + i;
+    let row = places::handler_row(i);
     if answers::has_copy(words, row, x) {
-        return Outcome::Value(words[row * 66 + (34 + x)]);
+        let at = places::copy_at(row, x);
+        return Outcome::Value(words[at]);
     }
-    let count = words[2] as usize;
+    let count = words[places::COMMITS_NOTED] as usize;
     let place = answers::writer_of(words, x, count);
     if answers::tears(words, m, row, count, place) {
         noting::empty_row(words, row, 0);
@@ -39,8 +40,9 @@ fn attempt(words: &mut [u32], m: usize, i: usize) -> Outcome
     requires { ⌜ Able (now words) m i try ⌝ }
     ensures { λ r. ⌜ ((v : ℕ) → TakesNoted (now (words .entry)) i try v (outcomeIs r) (now (words .exit))) ⌝ }
 {
-    if answers::is_stale(words, m, 1 + i, words[2] as usize) {
-        noting::empty_row(words, 1 + i, 0);
+    let row = places::handler_row(i);
+    if answers::is_stale(words, m, row, words[places::COMMITS_NOTED] as usize) {
+        noting::empty_row(words, row, 0);
         return Outcome::Aborted(Reason::Overtaken);
     }
     noting::note_commit(words, i);
@@ -54,13 +56,13 @@ fn take(words: &mut [u32], m: usize, i: usize, kind: Kind, value: u32) -> Outcom
 {
     match kind {
         Kind::Begin => {
-            noting::empty_row(words, 1 + i, 1);
+            noting::empty_row(words, places::handler_row(i), 1);
             Outcome::Done
         }
         Kind::Try => attempt(words, m, i),
         Kind::Read(x) => read(words, m, i, x),
         Kind::Write(x) => {
-            noting::note_write(words, 1 + i, x, value);
+            noting::note_write(words, places::handler_row(i), x, value);
             Outcome::Done
         }
         Kind::Unknown => Outcome::Done,
@@ -73,7 +75,7 @@ pub fn pass(words: &mut [u32], handler: u32, code: u32, kind: Kind, value: u32) 
     ensures { λ r. ⌜ ((s : Step) → kindIs kind ≡ known s
         → Passes (now (words .entry)) handler code s value (replyIs r) (now (words .exit))) ⌝ }
 {
-    let m = words[0] as usize;
+    let m = words[places::CELLS] as usize;
     let i = handler as usize;
     if is_too_many(words, m, i, kind) {
         return Answer::Refused(Refusal::TooManyCommits);

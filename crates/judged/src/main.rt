@@ -4,6 +4,6 @@ use runs::Player;
 
 // The judge answers, on words of its own.
 fn main() {
-    let mut words = [0u32; 5346];
+    let mut words = [0u32; limits::LEDGER_WORDS];
     lines::run_input(Player::Judge, &mut words);
 }

@@ -4,7 +4,7 @@ use Prim.Native.Nat.{ℕ}
 use mathlib.Core.Bool.{false}
 use mathlib.Core.List.{List, _∷_, _++_}
 use lib.ListN.{drop}
-use Rattle.rules.specs.steps.Codes.{kindOf}
+use Rattle.rules.specs.steps.Codes.{plainSheet}
 use Rattle.rules.specs.steps.Register.{Setting, numbersUnder, Cell, Handler, Register, zeros, idle, blank}
 use Rattle.layout.specs.Bits.{hasBit, mask}
 use Rattle.layout.specs.Rows.{row, rows, below}
@@ -13,7 +13,7 @@ use Rattle.layout.specs.Places.{writtenSetIn, handlerNumberIn, transacti
 
 -- The rules over words, under the plain sheet: values are words, and an unwritten cell and a cleared copy hold 0.
 abbrev pub wordSetting : ℕ → Setting ℕ
-wordSetting m = numbersUnder kindOf m
+wordSetting m = numbersUnder plainSheet m
 
 -- The cell that some words say.
 unfoldable pub viewCell : ℕ → List ℕ → Cell ℕ

@@ -9,7 +9,7 @@ use mathlib.Core.Logic.{_↔_, _⊎_, inl, inr}
 use lib.Dec.{leb}
 use lib.ListN.{length}
 use borrow.Author.Tests.{leb-true}
-use Rattle.rules.specs.steps.Codes.{kindOf}
+use Rattle.rules.specs.steps.Codes.{plainSheet}
 use Rattle.rules.specs.steps.Replies.{overtaken, spent, Outcome, committed, aborted, Report, Reply, reported, Opening}
 use Rattle.rules.specs.steps.Replies.{Refusal, notWellFormed, tooManyCommits}
 use Rattle.rules.specs.steps.Checks.{Asked}
@@ -108,8 +108,8 @@ module _ {words : List ℕ} {handler code value : ℕ} {reply : Reply ℕ} {afte
   -- A refused step changes no word.
   pub judge-unchanged : (refusal : Refusal) → reply ≡ Reply.refused refusal → after ≡ words
   judge-unchanged refusal e =
-      p .left ∙ ap (noteWords words handler (kindOf code) value) (sym (p .replied) ∙ e)
-      ∙ refusal-unnoted words handler (kindOf code) value refusal
+      p .left ∙ ap (noteWords words handler (plainSheet code) value) (sym (p .replied) ∙ e)
+      ∙ refusal-unnoted words handler (plainSheet code) value refusal
 
 -- ── Aborts ────────────────────────────────────────────────────────────
 

@@ -5,7 +5,7 @@ use mathlib.Core.Bool.{Bool, true, false, _&&_, and-false}
 use mathlib.Core.List.{List}
 use lib.Dec.{leb}
 use borrow.Author.Tests.{leb-false}
-use Rattle.rules.specs.steps.Codes.{Step, Kind, known, unknown, kindOf}
+use Rattle.rules.specs.steps.Codes.{Step, Kind, known, unknown, plainSheet}
 use Rattle.rules.specs.steps.Replies.{Outcome, Refusal, tooManyCommits, Reply}
 use Rattle.rules.specs.steps.Register.{Setting}
 use Rattle.rules.specs.steps.Checks.{firstHit, stepChecks}
@@ -93,24 +93,24 @@ module _ {words : List ℕ} (ledger : Ledger words) (i code : ℕ) where
       → ((s : Step) → Free (askedByHistory S (handlersOf words) h i code) s
       → (isCommit (answer S h i s) ≡ true → commitsNoted words < mostCommits)
       → Q (reportedTo i code (answer S h i s)) (known s) (noteOutcome words i s v (answer S h i s)))
-      → Q (judgedReply words i code) (kindOf code) (noteWords words i (kindOf code) v (judgedReply words i code))
+      → Q (judgedReply words i code) (plainSheet code) (noteWords words i (plainSheet code) v (judgedReply words i code))
   unfolding noteWords
-  after-cases v Q isRefused isFree = reply-cases (λ reply. Q reply (kindOf code) (noteWords words i (kindOf code) v reply))
-      (λ refusal. subst (Q (Reply.refused refusal) (kindOf code)) (sym (refusal-unnoted words i (kindOf code) v refusal)) (isRefused refusal (kindOf code)))
+  after-cases v Q isRefused isFree = reply-cases (λ reply. Q reply (plainSheet code) (noteWords words i (plainSheet code) v reply))
+      (λ refusal. subst (Q (Reply.refused refusal) (plainSheet code)) (sym (refusal-unnoted words i (plainSheet code) v refusal)) (isRefused refusal (plainSheet code)))
       (λ s free room. subst (λ kind. Q (told s) kind (noteWords words i kind v (told s))) (sym (free .fits .heard .known)) (isFree s free room))
     where
       told : Step → Reply ℕ
       told s = reportedTo i code (answer S h i s)
 
   -- They say the history with the reply noted,
-  pub reply-noted : (v : ℕ) → SameHistory S (noteReply h i (kindOf code) v (judgedReply words i code))
-      (historyIn (noteWords words i (kindOf code) v (judgedReply words i code)))
+  pub reply-noted : (v : ℕ) → SameHistory S (noteReply h i (plainSheet code) v (judgedReply words i code))
+      (historyIn (noteWords words i (plainSheet code) v (judgedReply words i code)))
   unfolding noteReply
   reply-noted v = after-cases v (λ reply kind after. SameHistory S (noteReply h i kind v reply) (historyIn after))
       (λ refusal kind. subst (λ g. SameHistory S g h) (sym (note-refused h i kind v refusal)) history-refl)
       (λ s free room. outcome-noted ledger (free .fits .heard .handler) s v (answer S h i s) (free .fits .cell) (free .phase) room)
 
   -- and are a ledger of the same m and n.
-  pub reply-keeps : (v : ℕ) → Keeps words (noteWords words i (kindOf code) v (judgedReply words i code))
+  pub reply-keeps : (v : ℕ) → Keeps words (noteWords words i (plainSheet code) v (judgedReply words i code))
   reply-keeps v = after-cases v (λ reply kind after. Keeps words after) (λ refusal kind. keeps-itself ledger)
       (λ s free room. outcome-keeps ledger (free .fits .heard .handler) s v (answer S h i s) room)

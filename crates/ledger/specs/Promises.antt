@@ -8,7 +8,7 @@ use lib.ListN.{length, drop}
 use lib.Dec.{leb}
 use Rattle.rules.specs.Promise.{Due, Promise}
 use Rattle.rules.specs.steps.Tables.{if_then_else_}
-use Rattle.rules.specs.steps.Codes.{kindOf}
+use Rattle.rules.specs.steps.Codes.{plainSheet}
 use Rattle.rules.specs.steps.Replies.{ok, value, committed, aborted, Outcome, Refusal, notWellFormed, tooManyCommits, Reply, reported, Opening}
 use Rattle.rules.specs.steps.Register.{zeros}
 use Rattle.rules.specs.steps.Checks.{firstHit, openingChecks}
@@ -75,7 +75,7 @@ judgedReply words i code =
 abbrev pub judging : StepCall → Due (Reply ℕ) (List ℕ)
 judging call =
     let reply = judgedReply (call .words) (call .handler) (call .code) in
-    record { reply = reply; leaves = noteWords (call .words) (call .handler) (kindOf (call .code)) (call .value) reply }
+    record { reply = reply; leaves = noteWords (call .words) (call .handler) (plainSheet (call .code)) (call .value) reply }
 
 -- The promise of a step.
 abbrev pub JudgedPromise : List ℕ → ℕ → ℕ → ℕ → Reply ℕ → List ℕ → Type 0

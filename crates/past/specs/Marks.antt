@@ -1,3 +1,4 @@
+-- For internal contracts alone: what our own functions are called with and leave. Nothing here need be believed.
 -- Marks: a set of commits in one word of 64 bits, bit k for the commit at place k + 1; and the pasts that are asked for, as the
 -- rules define them of the commits that the judge's words say.
 use Prim.Native.Nat.{ℕ, zero, suc}

@@ -6,7 +6,7 @@ use mathlib.Core.Bool.{true}
 use mathlib.Core.List.{List}
 use mathlib.Core.Logic.{_↔_}
 use lib.ListN.{getD}
-use Rattle.rules.specs.steps.Codes.{known, try, kindOf}
+use Rattle.rules.specs.steps.Codes.{known, try, plainSheet}
 use Rattle.rules.specs.steps.Replies.{torn, overtaken, aborted, Reply}
 use Rattle.rules.specs.history.History.{History, writer}
 use Rattle.rules.specs.history.Past.{Tears, upTo}
@@ -40,7 +40,7 @@ pub record WordsConsistent (m n : ℕ) (words : List ℕ) (h : History ℕ) : Ty
   pub replies : {i code v : ℕ} {reply : Reply ℕ} {after : List ℕ} → StepPromise words i code v reply after
       → reply ≡ judgement (wordSetting m) n h i code
   -- a try is answered abort 2 exactly when a version read is no longer the present one;
-  pub overtakenExactly : {i code v : ℕ} {reply : Reply ℕ} {after : List ℕ} → i < n → kindOf code ≡ known try → h .opened i ≡ true
+  pub overtakenExactly : {i code v : ℕ} {reply : Reply ℕ} {after : List ℕ} → i < n → plainSheet code ≡ known try → h .opened i ≡ true
       → StepPromise words i code v reply after
       → (reply ≡ reportedTo i code (aborted overtaken)) ↔ Overtaken (h .commits) (h .now i)
   -- and a cell's number for y is that of the latest version of y in the cell's writer and that one's past

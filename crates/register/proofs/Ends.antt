@@ -27,10 +27,10 @@ module _ (words : List ℕ) (c : ℕ) where
     end-beyond beyond = record { replied = rw (formed, le-ltb c (cellsOf words) beyond); left = refl }
 
     -- A cell of the register shows its first word, and its own number behind it.
-    pub end-shown : {start : ℕ} → c < cellsOf words → start ≡ 2 + cellStart (cellsOf words) c
-        → EndPromise words c (some (record { value = getD words start 0; number = getD words (start + 1 + c) 0 }))
+    pub end-shown : {place start : ℕ} → c < cellsOf words → place ≡ cellStart (cellsOf words) c → start ≡ 2 + place
+        → EndPromise words c (some (record { value = getD words (start + 0) 0; number = getD words (start + 1 + c) 0 }))
     unfolding endOf
-    end-shown {start} inside starts = record {
+    end-shown {place} {start} inside placed starts = record {
       replied = rw (formed, lt-ltb c (cellsOf words) inside) (λ i. some (record { value = value i; number = number i }));
       left = refl;
     }
@@ -38,12 +38,12 @@ module _ (words : List ℕ) (c : ℕ) where
         first : ℕ
         first = cellStart (cellsOf words) c
 
-        value : getD words start 0 ≡ viewed words .cells c .value
+        value : getD words (start + 0) 0 ≡ viewed words .cells c .value
         value =
-            ap (λ place. getD words place 0) starts ∙ sym (getD-drop 2 words first 0)
-            ∙ value-said (handlersOf words) (bodyOf words) inside refl
+            ap (λ place. getD words place 0) (let same : start + 0 ≡ 2 + (first + 0) = omega (arith, starts, placed) in same)
+            ∙ sym (getD-drop 2 words (first + 0) 0) ∙ value-said (handlersOf words) (bodyOf words) inside refl
 
         number : getD words (start + 1 + c) 0 ≡ viewed words .cells c .numbers c
         number =
-            ap (λ place. getD words place 0) (let same : start + 1 + c ≡ 2 + (first + 1 + c) = omega (arith, starts) in same)
+            ap (λ place. getD words place 0) (let same : start + 1 + c ≡ 2 + (first + 1 + c) = omega (arith, starts, placed) in same)
             ∙ sym (getD-drop 2 words (first + 1 + c) 0) ∙ number-said (handlersOf words) (bodyOf words) inside refl c inside

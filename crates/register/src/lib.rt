@@ -1,8 +1,5 @@
 // A transactional register over words that the caller lends: opening it, steps of its handlers, and what is shown of a cell.
 // PUBLIC: nothing here has a `requires`. Each promise fixes the reply and every word of the buffer, for all inputs.
-mod body;
-mod take;
-
 ghost use Rattle.promises.specs.Opening.{OpeningPromise};
 ghost use Rattle.promises.specs.Stepping.{StepPromise};
 ghost use Rattle.promises.specs.Lengths.{LengthPromise};
@@ -10,7 +7,6 @@ ghost use Rattle.replies.specs.Meaning.{replyIs, openingIs};
 ghost use Rattle.replies.specs.Ends.{endIs};
 ghost use Rattle.register.specs.Meaning.{neededIs};
 ghost use Rattle.register.specs.Ending.{EndPromise};
-pub use body::step_body;
 use replies::Answer;
 use replies::End;
 use replies::Opened;
@@ -26,30 +22,30 @@ pub enum Needed {
 pub fn words_needed(m: u32, n: u32) -> Needed
     ensures { λ r. ⌜ LengthPromise m n (neededIs r) ⌝ }
 {
-    if !formed::in_range(m, n) {
+    if !limits::in_range(m, n) {
         return Needed::Nothing;
     }
     let cells = m as usize;
     let handlers = n as usize;
-    Needed::Words(2 + formed::body_words(cells, handlers))
+    Needed::Words(limits::FRONT + places::body_words(cells, handlers))
 }
 
 // Opens a register of m cells and n handlers in front of the words.
 pub fn open(words: &mut [u32], m: u32, n: u32) -> Opened
     ensures { λ r. ⌜ OpeningPromise (now (words .entry)) m n (openingIs r) (now (words .exit)) ⌝ }
 {
-    if !formed::in_range(m, n) {
+    if !limits::in_range(m, n) {
         return Opened::Rejected(Refusal::OutOfRange);
     }
     let cells = m as usize;
     let handlers = n as usize;
-    let long = formed::body_words(cells, handlers);
-    if words.len() < 2 + long {
+    let long = places::body_words(cells, handlers);
+    if words.len() < limits::FRONT + long {
         return Opened::Rejected(Refusal::TooShort);
     }
-    words[0] = m;
-    words[1] = n;
-    words::clear(&mut words[2..], 0, long);
+    words[places::CELLS] = m;
+    words[places::HANDLERS] = n;
+    words::clear(&mut words[limits::FRONT..], 0, long);
     Opened::Ready
 }
 
@@ -60,9 +56,18 @@ pub fn step(words: &mut [u32], handler: u32, code: u32, value: u32) -> Answer
     if !formed::well_formed(words) {
         return Answer::Refused(Refusal::NotWellFormed);
     }
-    let m = words[0] as usize;
-    let n = words[1] as usize;
-    step_body(&mut words[2..], m, n, handler, code, value)
+    let m = words[places::CELLS] as usize;
+    let n = words[places::HANDLERS] as usize;
+    let kind = checks::kind_of(code);
+    turns::turn(
+        &mut words[limits::FRONT..],
+        m,
+        n,
+        handler,
+        code,
+        kind,
+        value,
+    )
 }
 
 // A cell's value and own number.
@@ -72,14 +77,15 @@ pub fn cell_end(words: &[u32], c: u32) -> End
     if !formed::well_formed(words) {
         return End::Missing;
     }
-    if words[0] <= c {
+    if words[places::CELLS] <= c {
         return End::Missing;
     }
-    let m = words[0] as usize;
+    let m = words[places::CELLS] as usize;
     let k = c as usize;
-    let start = 2 + k * (m + 1);
+    let span = places::cell_at(m, k);
+    let start = limits::FRONT + span.start;
     End::Cell {
-        value: words[start],
-        number: words[start + 1 + k],
+        value: words[start + places::VALUE],
+        number: words[start + places::NUMBERS + k],
     }
 }

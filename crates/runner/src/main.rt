@@ -4,6 +4,6 @@ use runs::Player;
 
 // The register answers, on words that are enough for every file.
 fn main() {
-    let mut words = [0u32; 2642];
+    let mut words = [0u32; limits::REGISTER_WORDS];
     lines::run_input(Player::Register, &mut words);
 }

@@ -10,7 +10,7 @@ use lib.ListN.{length, drop, set, length-set}
 use lib.Seq.{drop-drop, getD-set-same, getD-set-other}
 use borrow.Author.Tests.{leb-false, lt-leb, le-ltb, eqb-true, eqb-false}
 use Rattle.rules.specs.steps.Tables.{put}
-use Rattle.rules.specs.steps.Codes.{kindOf}
+use Rattle.rules.specs.steps.Codes.{plainSheet}
 use Rattle.rules.specs.steps.Register.{Register}
 use Rattle.rules.specs.steps.Checks.{firstHit}
 use Rattle.rules.specs.steps.Turn.{turn}
@@ -104,30 +104,30 @@ module _ {file : List ℕ} {cursors : Cursors} {words : List ℕ} {s : RunState}
       step = firstStep (code ∷ bytes)
 
       spoilt : isSpoilt (code ∷ bytes) ≡ false
-      spoilt = rw (stands .known) (le-ltb (length (code ∷ bytes)) (1 + valueLong (kindOf code)) (omega (arith, stands .fits)))
+      spoilt = rw (stands .known) (le-ltb (length (code ∷ bytes)) (1 + valueLong (plainSheet code)) (omega (arith, stands .fits)))
 
       -- It is taken at this place,
       taken-here : namedNext file cursors handler ≡ taken handler step
       unfolding namedNext answered placeChecks leftChecks firstHit step
       taken-here = rw (inside, front, spoilt, lt-leb (length (code ∷ bytes)) 0 (omega arith)) (ap (taken handler) (ap firstStep front))
 
-      one-more : 1 + valueLong (kindOf code) ≡ suc (valueLong (kindOf code))
+      one-more : 1 + valueLong (plainSheet code) ≡ suc (valueLong (plainSheet code))
       one-more = omega arith
 
       -- its cursor moves on,
       moved : Cursors
-      moved = set cursors handler (cursorOf cursors handler + (1 + valueLong (kindOf code)))
+      moved = set cursors handler (cursorOf cursors handler + (1 + valueLong (plainSheet code)))
 
       placed : handler < length cursors
       placed = omega (arith, along .room, leb-false (handlersIn file) handler inside)
 
       -- it leaves the bytes behind it,
-      leaves : leftOf file moved handler ≡ drop (valueLong (kindOf code)) bytes
+      leaves : leftOf file moved handler ≡ drop (valueLong (plainSheet code)) bytes
       unfolding moved
       leaves =
           ap (λ k. drop k (scriptIn file handler)) (getD-set-same cursors handler _ 0 placed)
-          ∙ sym (drop-drop (1 + valueLong (kindOf code)) (cursorOf cursors handler) (scriptIn file handler))
-          ∙ ap (drop (1 + valueLong (kindOf code))) front ∙ ap (λ k. drop k (code ∷ bytes)) one-more
+          ∙ sym (drop-drop (1 + valueLong (plainSheet code)) (cursorOf cursors handler) (scriptIn file handler))
+          ∙ ap (drop (1 + valueLong (plainSheet code))) front ∙ ap (λ k. drop k (code ∷ bytes)) one-more
 
       -- and the cursors leave what the run has left.
       leaving-next : Leaving file moved (put (s .left) handler (stands .rest))
@@ -139,7 +139,7 @@ module _ {file : List ℕ} {cursors : Cursors} {words : List ℕ} {s : RunState}
 
       kept : handlersIn file ≤ length moved
       unfolding moved
-      kept = omega (arith, along .room, length-set cursors handler (cursorOf cursors handler + (1 + valueLong (kindOf code))))
+      kept = omega (arith, along .room, length-set cursors handler (cursorOf cursors handler + (1 + valueLong (plainSheet code))))
 
       -- A step in front: it is asked of the register in both, and used up.
       step-left : OnePlace file cursors words s place handler

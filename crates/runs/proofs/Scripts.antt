@@ -6,7 +6,7 @@ use mathlib.Core.List.{List, [], _∷_}
 use mathlib.Core.Option.{Option, none, some, Option·some-injective, Option·some-ne-none}
 use native.Mathlib.Omega.{arith}
 use lib.ListN.{length, drop}
-use Rattle.rules.specs.steps.Codes.{kindOf}
+use Rattle.rules.specs.steps.Codes.{plainSheet}
 use Rattle.rules.specs.steps.Checks.{isUnknown}
 use Rattle.rules.proofs.steps.Tables.{by}
 use Rattle.schedule.specs.Scripts.{ScriptStep, valueLong, firstStep, before, stepsBehind, stepsOf}
@@ -22,22 +22,22 @@ behind (suc k) (byte ∷ bytes) steps e = let rest = behind k bytes steps e in (
 -- A step in front of what is left, and the steps behind it.
 pub record InFront (code : ℕ) (bytes : List ℕ) (steps : List ScriptStep) : Type 0 where
   pub rest : List ScriptStep
-  pub known : isUnknown (kindOf code) ≡ false
+  pub known : isUnknown (plainSheet code) ≡ false
   pub stands : steps ≡ firstStep (code ∷ bytes) ∷ rest
-  pub fits : valueLong (kindOf code) ≤ length bytes
-  pub left : stepsOf (drop (valueLong (kindOf code)) bytes) ≡ some rest
+  pub fits : valueLong (plainSheet code) ≤ length bytes
+  pub left : stepsOf (drop (valueLong (plainSheet code)) bytes) ≡ some rest
 
 -- A whole script that is not used up has a step in front.
 pub in-front : (code : ℕ) (bytes : List ℕ) (steps : List ScriptStep) → stepsOf (code ∷ bytes) ≡ some steps → InFront code bytes steps
 unfolding stepsBehind
-in-front code bytes steps e = by (isUnknown (kindOf code)) (λ unknown. absurd (Option·some-ne-none steps (sym (rw unknown at e)))) known
+in-front code bytes steps e = by (isUnknown (plainSheet code)) (λ unknown. absurd (Option·some-ne-none steps (sym (rw unknown at e)))) known
   where
-    split : (found : Option (List ScriptStep)) → stepsBehind (valueLong (kindOf code)) bytes ≡ found
-        → before (firstStep (code ∷ bytes)) found ≡ some steps → isUnknown (kindOf code) ≡ false → InFront code bytes steps
+    split : (found : Option (List ScriptStep)) → stepsBehind (valueLong (plainSheet code)) bytes ≡ found
+        → before (firstStep (code ∷ bytes)) found ≡ some steps → isUnknown (plainSheet code) ≡ false → InFront code bytes steps
     split none same e′ is = absurd (Option·some-ne-none steps (sym e′))
     split (some rest) same e′ is =
         let follows = behind _ bytes rest same in
         record { rest = rest; known = is; stands = sym (Option·some-injective _ _ e′); fits = follows .0; left = follows .1 }
 
-    known : isUnknown (kindOf code) ≡ false → InFront code bytes steps
-    known is = split (stepsBehind (valueLong (kindOf code)) bytes) refl (rw is at e) is
+    known : isUnknown (plainSheet code) ≡ false → InFront code bytes steps
+    known is = split (stepsBehind (valueLong (plainSheet code)) bytes) refl (rw is at e) is

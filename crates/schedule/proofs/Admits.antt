@@ -13,7 +13,7 @@ use Rattle.rules.proofs.steps.Given.{exactly}
 use Rattle.rules.proofs.steps.Tables.{by, both-ways, some-true}
 use Rattle.layout.specs.WellFormed.{everyBelow}
 use Rattle.layout.proofs.Tested.{every-iff}
-use Rattle.formed.proofs.Answers.{answers-no}
+use Rattle.limits.proofs.Ranges.{answers-no}
 use Rattle.schedule.specs.Sound.{handlersIn, cellsIn, scriptIn, isSoundFile}
 use Rattle.schedule.specs.Scripts.{isWhole}
 use Rattle.schedule.specs.Admitting.{Admission, refused, allWhole, fileChecks, fileRefusal, admitted, admissionOf, GoodFile}

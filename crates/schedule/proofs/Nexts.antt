@@ -6,7 +6,7 @@ use mathlib.Core.List.{List}
 use mathlib.Core.Option.{some}
 use lib.ListN.{length, set}
 use borrow.Author.Tests.{le-leb, lt-leb}
-use Rattle.rules.specs.steps.Codes.{kindOf}
+use Rattle.rules.specs.steps.Codes.{plainSheet}
 use Rattle.rules.specs.steps.Replies.{Refusal, badFile, noHandler}
 use Rattle.rules.specs.steps.Checks.{firstHit}
 use Rattle.schedule.specs.Bytes.{byteAt}
@@ -53,8 +53,8 @@ module _ (file : List ℕ) (cursors : Cursors) (handler : ℕ) where
         advanced : ℕ → Cursors
         advanced more = set cursors handler (cursorOf cursors handler + more)
 
-        lasts : long ≡ 1 + valueLong (kindOf code)
-        lasts = stands .takes ∙ ap (λ (step : ScriptStep). 1 + valueLong (kindOf (step .code))) (sym (stands .step))
+        lasts : long ≡ 1 + valueLong (plainSheet code)
+        lasts = stands .takes ∙ ap (λ (step : ScriptStep). 1 + valueLong (plainSheet (step .code))) (sym (stands .step))
 
         taking : namedNext file cursors handler ≡ taken handler (record { code = code; value = value })
         taking = rw (left-decides, stands .passes) (ap (taken handler) (sym (stands .step)))

@@ -13,7 +13,7 @@ use Rattle.rules.specs.steps.Checks.{inRange}
 use Rattle.rules.proofs.steps.Given.{range-tested}
 use Rattle.rules.proofs.steps.Tables.{and-iff, leb-iff, same-test}
 use Rattle.layout.proofs.Tested.{every-iff}
-use Rattle.formed.proofs.Answers.{answers-no}
+use Rattle.limits.proofs.Ranges.{answers-no}
 use Rattle.schedule.specs.Bytes.{entryAt, offsetOf, lengthOf, entryBody}
 use Rattle.schedule.specs.Sound.{handlersIn, cellsIn, tableStart, entriesIn, dueAt, SoundTable, SoundFile, isPlaced, isSoundTable, isSoundFile}
 

@@ -11,7 +11,7 @@ use lib.ListN.{length, drop, length-drop}
 use lib.Seq.{getD-drop}
 use borrow.Author.Tests.{le-leb, lt-leb, lt-ltb, le-ltb}
 use Rattle.rules.specs.steps.Replies.{usedUp, unknownStep}
-use Rattle.rules.specs.steps.Codes.{begin, try, read, write, Kind, known, unknown, kindOf}
+use Rattle.rules.specs.steps.Codes.{begin, try, read, write, Kind, known, unknown, plainSheet}
 use Rattle.rules.specs.steps.Checks.{firstHit}
 use Rattle.schedule.specs.Bytes.{byteAt, shortAt, longAt}
 use Rattle.schedule.specs.Scripts.{ScriptStep, valueLong, valueBehind}
@@ -56,17 +56,17 @@ front-used script at h = rw (le-leb (length (drop at script)) 0 (omega (arith, l
 module _ (script : List ℕ) (at : ℕ) (inside : at < length script) where
   -- The kind of the code in front.
   abbrev kindLeft : Kind
-  kindLeft = kindOf (byteAt (drop at script) 0)
+  kindLeft = plainSheet (byteAt (drop at script) 0)
 
   -- The script is not used up.
   not-used : leb (length (drop at script)) 0 ≡ false
   not-used = lt-leb _ _ (some-left script at inside)
 
-  module _ {long : ℕ} (takes : long ≡ stepBytes (kindOf (byteAt script at))) where
+  module _ {long : ℕ} (takes : long ≡ stepBytes (plainSheet (byteAt script at))) where
     -- 15 where the code is unknown,
     pub front-unknown : long ≡ 0 → firstHit (leftChecks (drop at script)) ≡ some unknownStep
     unfolding firstHit leftChecks
-    front-unknown e = rw (not-used, code-there script at inside, takes-none (kindOf (byteAt script at)) (sym takes ∙ e))
+    front-unknown e = rw (not-used, code-there script at inside, takes-none (plainSheet (byteAt script at)) (sym takes ∙ e))
 
     module _ (some-taken : long ≡ 0 → ⊥) where
       -- The step in front takes so many of the bytes that are left.

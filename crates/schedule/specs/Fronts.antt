@@ -1,4 +1,5 @@
--- For the functions inside this crate alone: how many bytes a step takes, what stands in front of what is left of a script, and
+-- For internal contracts alone: what our own functions are called with and leave. Nothing here need be believed.
+-- What the functions inside this crate say: how many bytes a step takes, what stands in front of what is left of a script, and
 -- what an order place names.
 use Prim.Native.Nat.{ℕ, _+_, _≤_, _<_}
 use mathlib.Core.Path.{_≡_}

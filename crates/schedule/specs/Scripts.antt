@@ -4,7 +4,7 @@ use mathlib.Core.Bool.{Bool}
 use mathlib.Core.List.{List, [], _∷_}
 use mathlib.Core.Option.{Option, none, some}
 use Rattle.rules.specs.steps.Tables.{if_then_else_, isFound}
-use Rattle.rules.specs.steps.Codes.{begin, try, read, write, Kind, known, unknown, kindOf}
+use Rattle.rules.specs.steps.Codes.{begin, try, read, write, Kind, known, unknown, plainSheet}
 use Rattle.rules.specs.steps.Checks.{isUnknown}
 use Rattle.schedule.specs.Bytes.{byteAt, longAt}
 
@@ -31,7 +31,7 @@ valueBehind unknown bytes = 0
 
 -- The step at the front of some bytes.
 abbrev pub firstStep : List ℕ → ScriptStep
-firstStep bytes = record { code = byteAt bytes 0; value = valueBehind (kindOf (byteAt bytes 0)) bytes }
+firstStep bytes = record { code = byteAt bytes 0; value = valueBehind (plainSheet (byteAt bytes 0)) bytes }
 
 -- A step before others, if these could be read.
 abbrev pub before : ScriptStep → Option (List ScriptStep) → Option (List ScriptStep)
@@ -44,8 +44,8 @@ stepsBehind zero [] = some []
 stepsBehind (suc k) [] = none
 stepsBehind (suc k) (byte ∷ bytes) = stepsBehind k bytes
 stepsBehind zero (code ∷ bytes) =
-    let steps = before (firstStep (code ∷ bytes)) (stepsBehind (valueLong (kindOf code)) bytes) in
-    if isUnknown (kindOf code) then none else steps
+    let steps = before (firstStep (code ∷ bytes)) (stepsBehind (valueLong (plainSheet code)) bytes) in
+    if isUnknown (plainSheet code) then none else steps
 
 -- The steps of a script, if it is whole: every code known and no write cut short.
 abbrev pub stepsOf : List ℕ → Option (List ScriptStep)

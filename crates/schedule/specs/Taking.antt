@@ -6,7 +6,7 @@ use mathlib.Core.Option.{Option, none, some}
 use lib.Dec.{leb, ltb}
 use lib.ListN.{length, getD, set, drop, replicate}
 use Rattle.rules.specs.steps.Tables.{if_then_else_}
-use Rattle.rules.specs.steps.Codes.{kindOf}
+use Rattle.rules.specs.steps.Codes.{plainSheet}
 use Rattle.rules.specs.Promise.{Due, Promise}
 use Rattle.rules.specs.steps.Replies.{Refusal, badFile, noHandler, usedUp, unknownStep}
 use Rattle.rules.specs.steps.Checks.{Check, _when_, firstHit, isUnknown}
@@ -43,11 +43,11 @@ leftOf file cursors handler = drop (cursorOf cursors handler) (scriptIn file han
 
 -- How many bytes the step at the front of some bytes takes.
 abbrev pub stepLong : List ℕ → ℕ
-stepLong bytes = 1 + valueLong (kindOf (byteAt bytes 0))
+stepLong bytes = 1 + valueLong (plainSheet (byteAt bytes 0))
 
 -- The step at the front of some bytes has an unknown code or is cut short.
 abbrev pub isSpoilt : List ℕ → Bool
-isSpoilt bytes = isUnknown (kindOf (byteAt bytes 0)) || ltb (length bytes) (stepLong bytes)
+isSpoilt bytes = isUnknown (plainSheet (byteAt bytes 0)) || ltb (length bytes) (stepLong bytes)
 
 -- 32 where nothing is left. 15 where no step stands in front, as is so nowhere in a run of a file that is admitted sound.
 unfoldable pub leftChecks : List ℕ → List (Check Refusal)
@@ -78,7 +78,7 @@ cursorsAfter cursors (rejected refusal) = cursors
 cursorsAfter cursors over = cursors
 cursorsAfter cursors (refused handler refusal) = cursors
 cursorsAfter cursors (taken handler step) =
-    set cursors handler (cursorOf cursors handler + (1 + valueLong (kindOf (step .code))))
+    set cursors handler (cursorOf cursors handler + (1 + valueLong (plainSheet (step .code))))
 
 -- What the next step is asked of: the file, the cursors, and the order place.
 pub record NextCall : Type 0 where

@@ -32,7 +32,7 @@ pub enum Found {
 
 // Of each handler, the place in its script up to which it is used up.
 pub struct Cursors {
-    pub at: [usize; 16],
+    pub at: [usize; limits::HANDLER_TABLE],
 }
 
 // What comes next at an order place.
@@ -96,7 +96,9 @@ pub fn script(file: &[u8], handler: u32) -> &[u8]
 pub fn at_start() -> Cursors
     ensures { λ r. ⌜ r .at ≡ atStart ⌝ }
 {
-    Cursors { at: [0; 16] }
+    Cursors {
+        at: [0; limits::HANDLER_TABLE],
+    }
 }
 
 // The next step at an order place.

@@ -10,7 +10,7 @@ use crate::table::sound_table;
 pub fn sound_file(file: &[u8]) -> bool
     ensures { λ r. ⌜ r ≡ isSoundFile (now (file .entry)) ⌝ }
 {
-    if file.len() > 65535 {
+    if file.len() > limits::MOST_FILE_BYTES {
         return false;
     }
     if file.len() < 2 {
@@ -18,7 +18,7 @@ pub fn sound_file(file: &[u8]) -> bool
     }
     let n = file[0];
     let m = file[1];
-    if !formed::in_range(m as u32, n as u32) {
+    if !limits::in_range(m as u32, n as u32) {
         return false;
     }
     sound_table(file, 2, n as usize + 1)

@@ -1,6 +1,6 @@
 -- A commit over a whole register: with the numbers stamped, the written cells stored and the block settled, the words hold the
 -- rules' register.
-use Prim.Native.Nat.{ℕ, _+_, _*_, _-_, _≤_, _<_}
+use Prim.Native.Nat.{ℕ, _+_, _-_, _≤_, _<_}
 use native.Mathlib.Omega.{arith}
 use mathlib.Core.Path.{_≡_, sym, ap, ap₂, _∙_}
 use mathlib.Core.Bool.{false, _&&_}
@@ -13,7 +13,7 @@ use Rattle.rules.specs.steps.Replies.{committed}
 use Rattle.rules.specs.steps.Register.{Register, withHandler, idle}
 use Rattle.rules.specs.steps.Figure.{stamped, isOvertaken, isSpent, committing}
 use Rattle.layout.specs.Bits.{hasBit}
-use Rattle.layout.specs.Places.{bodyLong, handlerStart, handlerLong}
+use Rattle.layout.specs.Places.{bodyLong, handlerStart, handlerLong, copiesFrom}
 use Rattle.layout.specs.View.{wordSetting, viewHandler, view, pourHandler, holding}
 use Rattle.layout.proofs.Holds.{Holds, holds-is}
 use Rattle.layout.proofs.Kept.{view-bounded}
@@ -21,10 +21,11 @@ use Rattle.layout.proofs.OneHandler.{block-put}
 use Rattle.layout.specs.Rows.{splice}
 use Rattle.words.specs.Rows.{RowOf}
 use Rattle.block.specs.Blocks.{rowTable, overtakenBy, spentBy, stampedBy}
-use Rattle.steps.specs.Spans.{Spans}
+use Rattle.places.specs.Spans.{Spans}
 use Rattle.steps.specs.Takes.{Seated, Takes, Commits}
 use Rattle.steps.specs.Stores.{ownNumbers, storedBelow, Stores}
-use Rattle.steps.proofs.Lent.{lent-back, seated-holds, block-says}
+use Rattle.places.proofs.Lent.{lent-back}
+use Rattle.steps.proofs.Lent.{seated-holds, block-says}
 use Rattle.steps.proofs.Said.{written-said, copy-said}
 use Rattle.steps.proofs.Storing.{commit-is}
 use Rattle.steps.proofs.Trying.{try-commits, own-is, written-is, copies-are, stamps-are}
@@ -66,21 +67,22 @@ module _ {m n i : ℕ} {words : List ℕ} (seated : Seated m n words i) {from to
       stamps-are m n words i (same-row stamps (λ y h. ap₂ (λ g table. stampedBy g table y) (block-says seated span) (own-is m n words of-own)))
 
   -- The copies that were taken out are the handler's.
-  copied : {copies : List ℕ} → RowOf m (λ y. getD words (from + 3 + 2 * m + y) 0) copies → rowTable copies ≡ r .handlers i .copies
-  copied of = copies-are m n words i (same-row of (copy-said seated (span .starts)))
+  copied : {place : ℕ} {copies : List ℕ} → place ≡ copiesFrom m → RowOf m (λ y. getD words (from + place + y) 0) copies
+      → rowTable copies ≡ r .handlers i .copies
+  copied placed of = copies-are m n words i (same-row of (λ y h. copy-said seated (span .starts) y h placed))
 
   -- The third word of the block is the written set.
   written : (c : ℕ) → ltb c m && hasBit (getD words (from + 2) 0) c ≡ r .handlers i .writtenSet c
   written = written-is m n words i (getD words (from + 2) 0) (written-said seated (span .starts))
 
   -- What is left is the rules' register after a commit.
-  pub commits : {own numbers copies stored last : List ℕ} → RowOf m (ownNumbers m n words) own
+  pub commits : {place : ℕ} {own numbers copies stored last : List ℕ} → place ≡ copiesFrom m → RowOf m (ownNumbers m n words) own
       → RowOf m (stampedBy (viewHandler m lent) (rowTable own)) numbers
-      → RowOf m (λ y. getD words (from + 3 + 2 * m + y) 0) copies
+      → RowOf m (λ y. getD words (from + place + y) 0) copies
       → Stores m m (getD words (from + 2) 0) (rowTable copies) (rowTable numbers) words stored
       → last ≡ pourHandler m (idle (wordSetting m) (rowTable numbers))
       → Commits m n words i (putMid from (to - from) stored last)
-  commits {numbers = numbers} {copies = copies} {stored = stored} of-own stamps taken stores settled =
+  commits {numbers = numbers} {copies = copies} {stored = stored} placed of-own stamps taken stores settled =
       lent-back span stored settled ∙ holds-is settles ∙ ap (holding words m n) register
     where
       storing : Register ℕ
@@ -92,7 +94,7 @@ module _ {m n i : ℕ} {words : List ℕ} (seated : Seated m n words i) {from to
 
       register : withHandler storing i (idle (wordSetting m) (rowTable numbers)) ≡ committing (wordSetting m) r i (r .handlers i)
       register =
-          ap₂ (λ a b. withHandler (storedBelow m (getD words (from + 2) 0) a b r) i (idle (wordSetting m) b)) (copied taken) (numbers-are of-own stamps)
+          ap₂ (λ a b. withHandler (storedBelow m (getD words (from + 2) 0) a b r) i (idle (wordSetting m) b)) (copied placed taken) (numbers-are of-own stamps)
           ∙ commit-is m r i (getD words (from + 2) 0) written
 
 -- A try that goes through is taken by a commit.

@@ -1,46 +1,27 @@
 -- A handler's block as it is lent and comes back: the lent part is the block of the register that the words say, and with the
 -- block of another handler put back the words hold the register with that handler.
 use Prim.Native.Nat.{ℕ, _+_, _-_, _≤_}
-use mathlib.Core.Path.{_≡_, refl, sym, ap, ap₂, _∙_, subst}
-use mathlib.Core.List.{List, _++_}
+use mathlib.Core.Path.{_≡_, refl, sym, ap, _∙_, subst}
+use mathlib.Core.List.{List}
 use native.Mathlib.Omega.{arith}
 use lib.ListN.{length, take, drop}
-use borrow.Rule.Slice.PartMut.{putMid, post-is}
+use borrow.Rule.Slice.PartMut.{putMid}
 use Rattle.rules.specs.steps.Codes.{Step}
 use Rattle.rules.specs.steps.Replies.{Outcome}
 use Rattle.rules.specs.steps.Register.{Handler, withHandler}
 use Rattle.rules.specs.steps.Figure.{step}
-use Rattle.layout.specs.Rows.{part, splice}
 use Rattle.layout.specs.Places.{bodyLong, handlerStart, handlerLong}
 use Rattle.layout.specs.View.{wordSetting, viewHandler, view, pourHandler, holding}
 use Rattle.layout.specs.WellFormed.{GoodBlock}
-use Rattle.layout.proofs.Rows.{part-length}
 use Rattle.layout.proofs.Places.{handler-fits, handler-start-small}
 use Rattle.layout.proofs.PourView.{well-holds}
 use Rattle.layout.proofs.ViewPour.{view-handler}
 use Rattle.layout.proofs.Holds.{Holds, holds-is}
 use Rattle.layout.proofs.OneHandler.{block-put}
 use Rattle.block.specs.Blocks.{Block, OpenBlock}
-use Rattle.steps.specs.Spans.{Spans}
+use Rattle.places.specs.Spans.{Spans}
+use Rattle.places.proofs.Lent.{lent-part, lent-length, lent-back}
 use Rattle.steps.specs.Takes.{Seated, Takes}
-
-module _ {first long from to : ℕ} (span : Spans first long from to) (words : List ℕ) where
-  -- What is lent is the part.
-  pub lent-part : take (to - from) (drop from words) ≡ part first long words
-  lent-part =
-      ap₂ (λ (a e : ℕ). take (e - a) (drop a words)) (span .starts) (span .ends)
-      ∙ ap (λ (k : ℕ). take k (drop first words)) (let count : first + long - first ≡ long = omega arith in count)
-
-  -- What is lent is as long as the part.
-  pub lent-length : first + long ≤ length words → length (take (to - from) (drop from words)) ≡ long
-  lent-length fits = ap length lent-part ∙ part-length first long words fits
-
-  -- What comes back is put in for the part.
-  pub lent-back : {last new : List ℕ} → last ≡ new → putMid from (to - from) words last ≡ splice first long new words
-  lent-back {new = new} e =
-      ap (putMid from (to - from) words) e
-      ∙ ap₂ (λ (a e : ℕ). putMid a (e - a) words new) (span .starts) (span .ends)
-      ∙ ap (λ (rest : List ℕ). take first words ++ (new ++ rest)) (post-is first (first + long) words (omega arith))
 
 module _ {m n i : ℕ} {body : List ℕ} (seated : Seated m n body i) where
   -- The body holds the register that it says.

@@ -17,7 +17,7 @@ use Rattle.layout.specs.WellFormed.{GoodBody}
 use Rattle.layout.proofs.PourView.{pour-view}
 use Rattle.block.specs.Blocks.{rowCell, readHandler, readOutcome, ReadsFirst}
 use Rattle.words.specs.Rows.{RowOf}
-use Rattle.steps.specs.Spans.{Spans}
+use Rattle.places.specs.Spans.{Spans}
 use Rattle.steps.specs.Takes.{Seated, Unread, Takes}
 use Rattle.steps.proofs.Lent.{block-says, lent-takes}
 use Rattle.steps.proofs.Said.{cell-said}
@@ -49,7 +49,7 @@ module _ {m n i x : ℕ} {words : List ℕ} (first : Unread m n words i x) {from
 
   pub first-read-takes : {start : ℕ} {row last : List ℕ} {outcome : Outcome ℕ} → start ≡ cellStart m x
       → RowOf m (λ y. getD words (start + 1 + y) 0) row
-      → ReadsFirst m (viewHandler m lent) x (rowCell (getD words start 0) row) outcome last
+      → ReadsFirst m (viewHandler m lent) x (rowCell (getD words (start + 0) 0) row) outcome last
       → Takes m n words i (read x) 0 outcome (putMid from (to - from) words last)
   first-read-takes {start} {row} starts copied reads =
       lent-takes seated span (λ h. readHandler m h x cell)
@@ -63,5 +63,5 @@ module _ {m n i x : ℕ} {words : List ℕ} (first : Unread m n words i x) {from
       cell : Cell ℕ
       cell = view m n words .cells x
 
-      same : rowCell (getD words start 0) row ≡ cell
+      same : rowCell (getD words (start + 0) 0) row ≡ cell
       same = cell-said n words (first .ready .cell) starts copied

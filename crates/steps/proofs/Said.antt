@@ -1,5 +1,5 @@
 -- What single words of a register say: a handler's phase, whether a cell is in a set, a local copy, and a cell with its numbers.
-use Prim.Native.Nat.{ℕ, _+_, _*_, _<_}
+use Prim.Native.Nat.{ℕ, _+_, _<_}
 use mathlib.Core.Path.{_≡_, sym, ap, _∙_}
 use mathlib.Core.Bool.{false, not}
 use mathlib.Core.List.{List}
@@ -9,7 +9,7 @@ use lib.ListN.{getD}
 use Rattle.rules.specs.steps.Register.{hasOpen}
 use Rattle.layout.specs.Bits.{hasBit}
 use Rattle.layout.specs.Rows.{below}
-use Rattle.layout.specs.Places.{cellStart, handlerStart, cellLong, handlerLong, cellPart, handlerPart, numberIn, copyIn}
+use Rattle.layout.specs.Places.{cellStart, handlerStart, cellLong, handlerLong, cellPart, handlerPart, numberIn, copiesFrom, copyIn}
 use Rattle.layout.specs.View.{view, viewCell, viewHandler}
 use Rattle.layout.proofs.Rows.{part-at, below-inside, below-beyond}
 use Rattle.layout.proofs.ViewPour.{view-cell, view-handler}
@@ -29,11 +29,9 @@ module _ {m n i : ℕ} {words : List ℕ} (seated : Seated m n words i) where
     said = sym (view-handler m n words i (seated .handler))
 
     -- The first word says whether the transaction is open.
-    pub phase-said : not (eqb (getD words start 0) 0) ≡ hasOpen (view m n words .handlers i)
+    pub phase-said : not (eqb (getD words (start + 0) 0) 0) ≡ hasOpen (view m n words .handlers i)
     unfolding viewHandler
-    phase-said =
-        ap (λ place. not (eqb (getD words place 0) 0)) (let first : start ≡ start + 0 = omega arith in first)
-        ∙ ap (λ word. not (eqb word 0)) (sym (block-word start 0 starts (omega arith))) ∙ ap hasOpen said
+    phase-said = ap (λ word. not (eqb word 0)) (sym (block-word start 0 starts (omega arith))) ∙ ap hasOpen said
 
     module _ (x : ℕ) (inside : x < m) where
       -- The second word says whether a cell is in the read set.
@@ -51,11 +49,11 @@ module _ {m n i : ℕ} {words : List ℕ} (seated : Seated m n words i) where
           ∙ sym (below-inside m false _ x inside) ∙ ap (λ h. h .writtenSet x) said
 
       -- The words behind the two vectors are the copies.
-      pub copy-said : getD words (start + 3 + 2 * m + x) 0 ≡ view m n words .handlers i .copies x
+      pub copy-said : {copies : ℕ} → copies ≡ copiesFrom m → getD words (start + copies + x) 0 ≡ view m n words .handlers i .copies x
       unfolding viewHandler
-      copy-said =
-          ap (λ place. getD words place 0) (let place : start + 3 + 2 * m + x ≡ start + (3 + 2 * m + x) = omega arith in place)
-          ∙ sym (block-word start (3 + 2 * m + x) starts (omega arith))
+      copy-said {copies} placed =
+          ap (λ place. getD words place 0) (let place : start + copies + x ≡ start + (copiesFrom m + x) = omega arith in place)
+          ∙ sym (block-word start (copiesFrom m + x) starts (omega arith))
           ∙ sym (below-inside m 0 (copyIn m (handlerPart m words i)) x inside) ∙ ap (λ h. h .copies x) said
 
 module _ (n : ℕ) (words : List ℕ) {m x start : ℕ} (inside : x < m) (starts : start ≡ cellStart m x) where
@@ -79,15 +77,15 @@ module _ (n : ℕ) (words : List ℕ) {m x start : ℕ} (inside : x < m) (starts
   number-said y h = number-word y h ∙ ap (λ cell. cell .numbers y) cell-says
 
   -- A cell's first word is its value.
-  first-word : getD words start 0 ≡ getD (cellPart m words x) 0 0
-  first-word = ap (λ place. getD words place 0) (let first : start ≡ start + 0 = omega arith in first) ∙ cell-word 0 (omega arith)
+  first-word : getD words (start + 0) 0 ≡ getD (cellPart m words x) 0 0
+  first-word = cell-word 0 (omega arith)
 
-  pub value-said : getD words start 0 ≡ view m n words .cells x .value
+  pub value-said : getD words (start + 0) 0 ≡ view m n words .cells x .value
   unfolding viewCell
   value-said = first-word ∙ ap (λ cell. cell .value) cell-says
 
   -- A cell's first word and the row copied from behind it are the cell.
-  pub cell-said : {row : List ℕ} → RowOf m (λ y. getD words (start + 1 + y) 0) row → rowCell (getD words start 0) row ≡ view m n words .cells x
+  pub cell-said : {row : List ℕ} → RowOf m (λ y. getD words (start + 1 + y) 0) row → rowCell (getD words (start + 0) 0) row ≡ view m n words .cells x
   unfolding viewCell
   cell-said {row} of = (λ d. record { value = first-word d; numbers = numbers d }) ∙ cell-says
     where

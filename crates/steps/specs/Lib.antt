@@ -1,4 +1,3 @@
--- What the functions over a whole register require and do.
-pub mod Spans
+-- What the steps over a whole body require and leave.
 pub mod Takes
 pub mod Stores

@@ -1,3 +1,4 @@
+-- For internal contracts alone: what our own functions are called with and leave. Nothing here need be believed.
 -- What storing the written cells does to words that hold a register.
 use Prim.Native.Nat.{ℕ}
 use mathlib.Core.Path.{_≡_}

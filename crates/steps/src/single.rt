@@ -6,8 +6,8 @@ ghost use Rattle.rules.specs.steps.Replies as Replies;
 ghost use Rattle.layout.specs.View.{view};
 ghost use Rattle.replies.specs.Meaning.{outcomeIs};
 ghost use Rattle.steps.specs.Takes.{Seated, Ready, Unread, Takes};
-use crate::places::block_at;
-use crate::places::cell_at;
+use places::block_at;
+use places::cell_at;
 use replies::Outcome;
 
 // Whether the handler's transaction is open.
@@ -17,7 +17,7 @@ pub fn is_open(body: &[u32], m: usize, n: usize, i: usize) -> bool
 {
     let span = block_at(m, i);
     let start = span.start;
-    body[start] != 0
+    body[start + places::PHASE] != 0
 }
 
 // A begin.
@@ -49,8 +49,8 @@ fn first_read(body: &mut [u32], m: usize, n: usize, i: usize, x: usize) -> Outco
 {
     let cell = cell_at(m, x);
     let first = cell.start;
-    let value = body[first];
-    let numbers = words::copy_out(body, first + 1, m);
+    let value = body[first + places::VALUE];
+    let numbers = words::copy_out(body, first + places::NUMBERS, m);
     let span = block_at(m, i);
     let start = span.start;
     let end = span.end;
@@ -64,9 +64,9 @@ pub fn read(body: &mut [u32], m: usize, n: usize, i: usize, x: usize) -> Outcome
 {
     let span = block_at(m, i);
     let start = span.start;
-    let read = body[start + 1];
-    let written = body[start + 2];
-    let copies = start + 3 + 2 * m;
+    let read = body[start + places::READ_SET];
+    let written = body[start + places::WRITTEN_SET];
+    let copies = start + places::copies(m);
     if words::has(read, x) {
         return Outcome::Value(body[copies + x]);
     }

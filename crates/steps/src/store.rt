@@ -3,6 +3,7 @@ ghost use mathlib.Core.Path.{_≡_};
 ghost use Prim.Native.Nat.{_+_, _*_, _≤_, _<_};
 ghost use lib.ListN.{length};
 ghost use Rattle.rules.specs.steps.Tables.{if_then_else_};
+ghost use Rattle.limits.specs.Limits.{mostCells};
 ghost use Rattle.layout.specs.Bits.{hasBit};
 ghost use Rattle.layout.specs.Places.{cellLong, cellStart};
 ghost use Rattle.layout.specs.View.{pourCell};
@@ -11,34 +12,41 @@ ghost use Rattle.words.specs.Rows.{RowOf};
 ghost use Rattle.block.specs.Blocks.{rowCell, rowTable};
 ghost use Rattle.steps.specs.Takes.{Formed};
 ghost use Rattle.steps.specs.Stores.{ownNumbers, Stores};
-use crate::places::cell_at;
+use places::cell_at;
 
 // Each cell's own number.
-pub fn own_numbers(body: &[u32], m: usize, n: usize) -> [u32; 32]
+pub fn own_numbers(body: &[u32], m: usize, n: usize) -> [u32; limits::ROW]
     requires { ⌜ Formed m n (now body) ⌝ }
     ensures { λ r. ⌜ RowOf m (ownNumbers m n (now (body .entry))) r ⌝ }
 {
-    let mut row = [0u32; 32];
+    let mut row = [0u32; limits::ROW];
     for c in 0..m {
         let span = cell_at(m, c);
         let start = span.start;
-        row[c] = body[start + 1 + c];
+        row[c] = body[start + places::NUMBERS + c];
     }
     row
 }
 
 // A cell's words: its value, and its numbers.
-fn put_cell(cell: &mut [u32], m: usize, value: u32, numbers: &[u32; 32])
-    requires { ⌜ (length (now cell) ≡ cellLong m) × (m ≤ 32) ⌝ }
+fn put_cell(cell: &mut [u32], m: usize, value: u32, numbers: &[u32; limits::ROW])
+    requires { ⌜ (length (now cell) ≡ cellLong m) × (m ≤ mostCells) ⌝ }
     ensures { λ _. ⌜ now (cell .exit) ≡ pourCell m (rowCell value (now (numbers .entry))) ⌝ }
 {
-    cell[0] = value;
-    words::copy_in(cell, 1, m, numbers);
+    cell[places::VALUE] = value;
+    words::copy_in(cell, places::NUMBERS, m, numbers);
 }
 
 // Cell c takes the value and the numbers, if it is in the written set.
-fn store_one(body: &mut [u32], m: usize, c: usize, written: u32, value: u32, numbers: &[u32; 32])
-    requires { ⌜ (m ≤ 32) × (c < m) × (m * cellLong m ≤ length (now body)) ⌝ }
+fn store_one(
+    body: &mut [u32],
+    m: usize,
+    c: usize,
+    written: u32,
+    value: u32,
+    numbers: &[u32; limits::ROW],
+)
+    requires { ⌜ (m ≤ mostCells) × (c < m) × (m * cellLong m ≤ length (now body)) ⌝ }
     ensures { λ _. ⌜ now (body .exit)
         ≡ (if hasBit written c then (splice (cellStart m c) (cellLong m) (pourCell m (rowCell value (now (numbers .entry)))) (now (body .entry)))
         else now (body .entry)) ⌝ }
@@ -52,8 +60,14 @@ fn store_one(body: &mut [u32], m: usize, c: usize, written: u32, value: u32, num
 }
 
 // Each written cell takes its copy and the numbers.
-pub fn store(body: &mut [u32], m: usize, written: u32, copies: &[u32; 32], numbers: &[u32; 32])
-    requires { ⌜ (m ≤ 32) × (m * cellLong m ≤ length (now body)) ⌝ }
+pub fn store(
+    body: &mut [u32],
+    m: usize,
+    written: u32,
+    copies: &[u32; limits::ROW],
+    numbers: &[u32; limits::ROW],
+)
+    requires { ⌜ (m ≤ mostCells) × (m * cellLong m ≤ length (now body)) ⌝ }
     ensures { λ _. ⌜ Stores m m written (rowTable (now (copies .entry))) (rowTable (now (numbers .entry))) (now (body .entry)) (now (body .exit)) ⌝ }
 {
     for c in 0..m {

@@ -4,14 +4,14 @@ ghost use Rattle.replies.specs.Meaning.{outcomeIs};
 ghost use Rattle.steps.specs.Takes.{Ready, Takes, Commits};
 ghost use Rattle.steps.specs.Stores.{ownNumbers};
 ghost use Rattle.words.specs.Rows.{RowOf};
-use crate::places::block_at;
 use crate::store::own_numbers;
 use crate::store::store;
+use places::block_at;
 use replies::Outcome;
 use replies::Reason;
 
 // A commit.
-fn commit(body: &mut [u32], m: usize, n: usize, i: usize, own: &[u32; 32])
+fn commit(body: &mut [u32], m: usize, n: usize, i: usize, own: &[u32; limits::ROW])
     requires { ⌜ Ready m n (now body) i Codes.try × RowOf m (ownNumbers m n (now body)) (now own) ⌝ }
     ensures { λ _. ⌜ Commits m n (now (body .entry)) i (now (body .exit)) ⌝ }
 {
@@ -19,8 +19,8 @@ fn commit(body: &mut [u32], m: usize, n: usize, i: usize, own: &[u32; 32])
     let start = span.start;
     let end = span.end;
     let numbers = block::stamps(&body[start..end], m, own);
-    let copies = words::copy_out(body, start + 3 + 2 * m, m);
-    let written = body[start + 2];
+    let copies = words::copy_out(body, start + places::copies(m), m);
+    let written = body[start + places::WRITTEN_SET];
     store(body, m, written, &copies, &numbers);
     block::settle(&mut body[start..end], m, &numbers);
 }

@@ -44,6 +44,11 @@ module _ (from : ℕ) (table : ℕ → ℕ) (words : List ℕ) where
   changed-all {count} {all} {after} changed most least =
       subst (λ k. Changed from k table words after) (let same : count ≡ all = omega arith in same) changed
 
+-- What is changed from a place that was computed is changed from that place.
+pub changed-at : {from place count : ℕ} {table : ℕ → ℕ} {words after : List ℕ} → from ≡ place → Changed from count table words after
+    → Changed place count table words after
+changed-at {count = count} {table = table} {words = words} {after = after} same = subst (λ k. Changed k count table words after) same
+
 -- A word of a row of zeros.
 zeros-at : (long y : ℕ) → _≡_ {A = ℕ} (getD (replicate long 0) y 0) 0
 zeros-at zero y = refl

@@ -1,4 +1,4 @@
--- `steps::kind_of` meets its contract: each range of the match is a range of the rules.
+-- `checks::kind_of` meets its contract: each range of the match is a range of the rules.
 use native.Mathlib.Omega.{arith}
 use borrow.Author.Needs.{needs}
 use Rattle.checks.proofs.Codes.{code-begin, code-try, code-read, code-write, code-between, code-beyond}

@@ -1,11 +1,11 @@
--- `steps::verdict_of` meets its contract: the checks are asked in their order, and the first that holds answers.
+-- `checks::verdict_of` meets its contract: the checks are asked in their order, and the first that holds answers.
 use Prim.Native.Nat.{_<_}
 use mathlib.Core.Path.{_≡_, refl, sym, ap₂, _∙_}
-use mathlib.Core.Bool.{Bool, false}
+use mathlib.Core.Bool.{Bool, true, false}
 use native.Mathlib.Omega.{arith}
 use borrow.Author.Needs.{needs}
-use Rattle.rules.specs.steps.Checks.{firstHit, stepChecks, isUnknown}
-use Rattle.checks.specs.Meaning.{kindIs, askedPlainly}
+use Rattle.rules.specs.steps.Checks.{asking, firstHit, stepChecks, isUnknown}
+use Rattle.checks.specs.Meaning.{kindIs}
 use Rattle.checks.proofs.Refusing.{phased, stops-15, stops-11, stops-12, stops-phased}
 use Rattle.checks.proofs.verdict_of.Statement.{statement}
 use Rattle.checks.proofs.verdict_of.Tie as tie
@@ -21,7 +21,7 @@ inside c = omega arith
 -- Past the third the phase decides.
 by-phase : (c : tie.After-is-begin) {begins opened : Bool} → let args = c .before .before .before .before .before .before .args in
     c .is-begin .result ≡ begins → args .opened ≡ opened
-    → phased begins opened ≡ firstHit (stepChecks (askedPlainly (args .m) (args .n) (args .handler) (kindIs (args .kind)) (args .opened)))
+    → phased begins opened ≡ firstHit (stepChecks (asking true (args .m) (args .n) (args .handler) (kindIs (args .kind)) (args .opened)))
 by-phase c begins opened =
     let past = c .before in
     let second = past .before .before in

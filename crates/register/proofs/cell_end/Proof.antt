@@ -41,6 +41,10 @@ fits c =
     let words = c .before .before .before .before .before .args .words .now in
     omega (arith, cell-fits (cellsOf words) (handlersOf words) _ (inside c), well-long (tested _ .0 (formed (c .before .before))))
 
+-- The second test, seen from where the cell is found.
+abbrev found : tie.After-struct-known → tie.Else2
+found c = c .before .before .before
+
 pub cell-end-spec : {M : Type 1} → statement M
 cell-end-spec =
     tie.close
@@ -51,13 +55,18 @@ cell-end-spec =
     (λ c. end-beyond _ _ (formed (c .before .before)) (omega arith))
     (λ c. omega (arith, long (c .before .before .before)))
     (λ c. omega (arith, small (c .before)))
-    (λ c. omega (arith, small (c .before)))
-    (λ c. omega (arith, small (c .before)))
-    (λ c. omega (arith, small (c .before)))
-    (λ c. omega (arith, small (c .before)))
-    (λ c. omega (arith, fits (c .before .before)))
-    (λ c. omega (arith, small (c .before .before)))
-    (λ c. omega (arith, small (c .before .before), inside (c .before .before)))
-    (λ c. omega (arith, small (c .before .before), inside (c .before .before)))
-    (λ c. omega (arith, fits (c .before .before .before), inside (c .before .before .before)))
-    (λ c. end-shown _ _ (formed (c .before .before .before .before .before)) (inside (c .before .before .before)) (omega arith)))
+    -- where the cell lies
+    (λ c κs. omega (arith, small (c .before), inside (c .before)))
+    (λ c. omega (arith, small (found c)))
+    -- its value
+    (λ c. omega (arith, small (found c)))
+    (λ c. omega (arith, small (found c)))
+    (λ c. omega (arith, fits (found (c .before))))
+    -- its number
+    (λ c. omega (arith, small (found (c .before))))
+    (λ c. omega (arith, small (found (c .before)), inside (found (c .before))))
+    (λ c. omega (arith, small (found (c .before)), inside (found (c .before))))
+    (λ c. omega (arith, fits (found (c .before .before)), inside (found (c .before .before))))
+    (λ c. let cell = c .before .before .before in
+    let else = found (c .before .before) in
+    end-shown _ _ (formed (else .before .before)) (inside else) (cell .cell-at .ensures .starts) (omega arith)))

@@ -4,6 +4,7 @@ use mathlib.Core.Bool.{true}
 use native.Mathlib.Omega.{arith}
 use borrow.Author.Needs.{needs}
 use borrow.Author.Tests.{not-true, not-false}
+use Rattle.rules.specs.steps.Codes.{plainSheet}
 use Rattle.layout.specs.Places.{cellsOf, handlersOf}
 use Rattle.layout.specs.WellFormed.{isWellFormed, WellFormed}
 use Rattle.layout.proofs.Tested.{tested}
@@ -37,17 +38,20 @@ step-spec =
     (λ c. omega (arith, well-long (formed (c .before .before))))
     (λ c. omega (arith, formed (c .before .before) .range .handlers))
     -- the body is lent
-    (λ c. omega (arith, well-long (formed (c .before .before))))
-    (λ c. omega (arith, well-long (formed (c .before .before))))
+    (λ c κs. search needs)
+    (λ c. omega (arith, well-long (formed (c .before .before .before))))
+    (λ c. omega (arith, well-long (formed (c .before .before .before))))
     (λ c. search needs)
-    (λ c κs. let tested = c .before .before .before in
+    (λ c κs. let kind = c .before in
+    let tested = kind .before .before .before in
     rw (behind-is 2 (tested .before .before .before .before .args .words .now)) (stands (formed tested)))
     (λ c. search needs)
-    (λ c. let tested = c .before .before .before .before .before .before in
+    (λ c. let kind = c .before .before .before .before in
+    let tested = kind .before .before .before in
     let args = tested .before .before .before .before .args in
     let words = args .words .now in
-    let left = c .before .before .step-body .last .0 in
+    let left = c .before .before .turn .last .0 in
     rw (register-back words (omega (arith, well-long (formed tested))) left)
     (body-steps words (args .handler) (args .code) (args .value) (passed tested)
-    (subst (λ body. BodyPromise (cellsOf words) (handlersOf words) body (args .handler) (args .code) (args .value) (replyIs (c .before .before .step-body .result)) left)
-    (behind-is 2 words) (c .before .before .step-body .ensures)))))
+    (subst (λ body. BodyPromise plainSheet (cellsOf words) (handlersOf words) body (args .handler) (args .code) (args .value) (replyIs (c .before .before .turn .result)) left)
+    (behind-is 2 words) (c .before .before .turn .ensures plainSheet (sym (kind .kind-of .ensures))))))

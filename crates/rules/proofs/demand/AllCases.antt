@@ -5,7 +5,7 @@ use mathlib.Core.Path.{_≡_, refl}
 use mathlib.Core.Bool.{true}
 use mathlib.Core.List.{List, [], _∷_, _++_, map}
 use Rattle.rules.specs.steps.Tables.{put, orElse, lowest, someBelow}
-use Rattle.rules.specs.steps.Codes.{kindOf}
+use Rattle.rules.specs.steps.Codes.{plainSheet}
 use Rattle.rules.specs.steps.Replies.{Numbers, replyNumbers}
 use Rattle.rules.specs.steps.Register.{numbersUnder, Register, withHandler, idle, blank, fresh}
 use Rattle.rules.specs.steps.Checks.{firstHit, stepChecks}
@@ -51,13 +51,13 @@ cellsIn m r = entries m (λ c. r .cells c .value ∷ entries m (r .cells c .numb
 play : ℕ → ℕ → Register ℕ → List CaseStep → Played
 play m n r [] = record { replies = []; cells = cellsIn m r }
 play m n r (l ∷ lines) =
-    let t = turn (numbersUnder kindOf m) n true r (l .handler) (l .code) (l .value) in
+    let t = turn (numbersUnder plainSheet m) n true r (l .handler) (l .code) (l .value) in
     let rest = play m n (t .after) lines in
     record { replies = replyNumbers (t .reply) ∷ rest .replies; cells = rest .cells }
 
 -- What the rules make of a row.
 pub made : Row → Played
-made row = play (row .m) (row .n) (fresh (numbersUnder kindOf (row .m))) (row .lines)
+made row = play (row .m) (row .n) (fresh (numbersUnder plainSheet (row .m))) (row .lines)
 
 -- What a row says.
 pub said : Row → Played
@@ -66,7 +66,7 @@ said row = record { replies = map (λ l. l .reply) (row .lines); cells = row .ce
 -- The rules make of each row what it says.
 pub on-tables : map made (rowsOf cases) ≡ map said (rowsOf cases)
 unfolding made said play cellsIn entries rowOf rowsOf cases
-    put orElse lowest someBelow kindOf
+    put orElse lowest someBelow plainSheet
     withHandler idle blank fresh firstHit stepChecks
     joined taken wrote shown stamped stored begun isTorn isOvertaken isSpent aborting committing
     unlessAborted readChecks tryChecks firstRead reading trying step stepRefusal turned turn

@@ -6,7 +6,7 @@ use mathlib.Core.Bool.{Bool, true, not, _&&_, _||_}
 use mathlib.Core.List.{List, [], _∷_}
 use lib.Dec.{ltb}
 use Rattle.rules.specs.steps.Tables.{put, orElse, lowest, someBelow}
-use Rattle.rules.specs.steps.Codes.{read, kindOf}
+use Rattle.rules.specs.steps.Codes.{read, plainSheet}
 use Rattle.rules.specs.steps.Replies.{Outcome, Reply}
 use Rattle.rules.specs.steps.Register.{Setting, numbersUnder, withHandler, idle, blank, fresh}
 use Rattle.rules.specs.steps.Checks.{firstHit, stepChecks}
@@ -22,7 +22,7 @@ use Rattle.rules.specs.demand.Judge.{copied, orAborted, answerRead, answ
 
 -- Two cells that hold 0 at opening.
 abbrev pub two : Setting ℕ
-two = numbersUnder kindOf 2
+two = numbersUnder plainSheet 2
 
 -- Handler i asks to begin,
 abbrev pub begins : ℕ → Ask ℕ
@@ -42,7 +42,7 @@ writes i x v = record { handler = i; code = 64 + x; value = v }
 
 -- The register and the history after these steps; to unfold it is to compute them.
 unfoldable pub reached : List (Ask ℕ) → State ℕ
-unfolding run start moved fresh blank idle withHandler put orElse lowest someBelow turn turned stepRefusal kindOf
+unfolding run start moved fresh blank idle withHandler put orElse lowest someBelow turn turned stepRefusal plainSheet
     stepChecks firstHit step begun wrote joined taken shown stamped stored isTorn isOvertaken isSpent aborting committing
     unlessAborted readChecks tryChecks firstRead reading trying noHistory noteReply note noteOk noteValue noteCommit noteAbort
     doing ended readDeed someLook hasRead hasWritten writerAmong writer

@@ -9,7 +9,7 @@ use mathlib.Core.Logic.{_↔_}
 use lib.Dec.{ltb}
 use borrow.Author.Tests.{ltb-true, not-true}
 use Rattle.rules.specs.steps.Tables.{put}
-use Rattle.rules.specs.steps.Codes.{known, read, kindOf}
+use Rattle.rules.specs.steps.Codes.{known, read, plainSheet}
 use Rattle.rules.specs.steps.Replies.{torn, overtaken, value, aborted}
 use Rattle.rules.specs.steps.Turn.{turn}
 use Rattle.rules.specs.history.History.{Deed, look, again, History, hasRead, hasWritten, writer}
@@ -35,8 +35,8 @@ TearsAfter steps x = Tears (commitsAfter steps) (reached steps .history .now 0) 
 -- ── The demand on them ────────────────────────────────────────────────
 
 -- The code of a read of one of the two cells.
-read-code : (x : ℕ) → x < 2 → kindOf (32 + x) ≡ known (read x)
-unfolding kindOf
+read-code : (x : ℕ) → x < 2 → plainSheet (32 + x) ≡ known (read x)
+unfolding plainSheet
 read-code zero inside = refl
 read-code (suc zero) inside = refl
 read-code (suc (suc x)) inside = absurd (omega arith)
@@ -127,7 +127,7 @@ k10-passed = told .0 k10-overtaken
   where
     told : (turn two 4 true (reached k10-read .register) 0 1 0 .reply ≡ reportedTo 0 1 (aborted overtaken))
         ↔ Overtaken (commitsAfter k10-read) (reached k10-read .history .now 0)
-    told = unfold reached kindOf in (history-tells ℕ two 4 k10-read .overtakenExactly 0 1 0 (omega arith) refl k10-open)
+    told = unfold reached plainSheet in (history-tells ℕ two 4 k10-read .overtakenExactly 0 1 0 (omega arith) refl k10-open)
 
 -- What the aborted transaction had read is what its past alone leaves,
 pub k10-from-past : FromPast two (firstOf 2 k10-commits) 0 (k10-aborted .deeds)

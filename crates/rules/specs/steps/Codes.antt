@@ -24,8 +24,8 @@ abbrev pub within : ℕ → ℕ → ℕ → Bool
 within first last code = leb first code && leb code last
 
 -- The plain sheet, for every number.
-unfoldable pub kindOf : Sheet
-kindOf code =
+unfoldable pub plainSheet : Sheet
+plainSheet code =
     if eqb code 0 then (known begin)
     else (if eqb code 1 then (known try)
     else (if within 32 63 code then (known (read (code - 32)))

@@ -37,7 +37,7 @@ stamps-spec =
     μ-loop
     -- the set and the place
     (λ c. omega arith)
-    (λ c. omega arith)
+    (λ c κs. omega arith)
     -- before the first turn
     (λ c. (omega arith, changed-none _ _ _ (omega arith)))
     -- the indices
@@ -46,14 +46,15 @@ stamps-spec =
     (λ c. omega arith)
     (λ c. omega arith)
     (λ c. omega arith)
-    (λ c κs. (omega arith, c .before .before .before .before .before .before .pre .1 _ (omega arith)))
+    (λ c κs. (omega arith, c .before .before .before .before .before .before .before .pre .1 _ (omega arith)))
     (λ c. omega arith)
     (λ c. omega arith)
     -- one more turn
     (λ c. omega arith)
     (λ c. omega arith)
     (λ c. let loop = c .before .before .before .before in
-    let own = loop .before .before .before .args .own .now in
-    (omega arith, changed-first _ _ _ _ _ (loop .loop .inv .1) (omega arith) (c .stamp .ensures ∙ stamped _ _ own _ (omega arith))))
+    let placed = loop .before .transaction-numbers .ensures in
+    let own = loop .before .before .before .before .args .own .now in
+    (omega arith, changed-first _ _ _ _ _ (loop .loop .inv .1) (omega arith) ((rw placed at (c .stamp .ensures)) ∙ stamped _ _ own _ (omega arith))))
     -- at the end
     (λ c. changed-row (changed-all _ _ _ (c .before .loop .inv .1) (omega arith) (omega arith))))

@@ -1,4 +1,4 @@
--- `steps::kinds::is_beyond` meets its contract: a read or a write names its cell, and no other step names one.
+-- `checks::kinds::is_beyond` meets its contract: a read or a write names its cell, and no other step names one.
 use mathlib.Core.Path.{sym, ap}
 use borrow.Author.Needs.{needs}
 use Rattle.rules.specs.steps.Checks.{isBeyond}

@@ -27,20 +27,23 @@ take-spec =
     tie.close
     (tie.spec
     (λ c. search needs)
-    (λ c. search needs)
+    (λ c κs. search needs)
     (λ c κs. search needs)
     (λ c. search needs)
     (λ c κs. able-for (c .before .before .before .before .pre) try (ap kindIs (c .before .enum-told2 .given .1)))
     (λ c. search needs)
     (λ c κs. able-for (c .before .before .before .before .before .pre) (read _) (ap kindIs (c .before .before .kind .given .1)) .ready)
     (λ c. search needs)
-    (λ c. search needs)
     (λ c κs. let ready = able-for (c .before .before .before .before .before .pre) (write _) (ap kindIs (c .before .before .kind2 .given .1)) .ready in
+    omega (arith, ready .handler, ready .ledger .range .handlers))
+    (λ c κs. let ready = able-for (c .before .before .before .before .before .before .pre) (write _) (ap kindIs (c .before .before .before .kind2 .given .1)) .ready in
     omega (arith, ready .handler, ready .cell, ready .ledger .long, ready .ledger .range .cells, ready .ledger .range .handlers))
     (λ c. search needs)
     (λ c. search needs)
     -- a begin
-    (λ c. takes-for begin (ap kindIs (c .before .before .before .before .enum-told .given .1)) (takes-begin _ _ _ (c .before .before .empty-row .ensures)))
+    (λ c. let emptied = c .before .before in
+    takes-for begin (ap kindIs (emptied .before .before .before .enum-told .given .1))
+    (takes-begin _ _ _ (emptied .before .handler-row .ensures) (emptied .empty-row .ensures)))
     (λ c. search needs)
     -- a try
     (λ c. takes-for try (ap kindIs (c .before .before .before .before .enum-told2 .given .1)) (c .before .before .attempt .ensures _))
@@ -49,7 +52,8 @@ take-spec =
     (λ c. takes-for (read _) (ap kindIs (c .before .before .before .before .before .kind .given .1)) (c .before .before .read .ensures _))
     (λ c. search needs)
     -- a write
-    (λ c. takes-for (write _) (ap kindIs (c .before .before .before .before .before .kind2 .given .1))
-    (takes-write _ _ _ _ (c .before .before .note-write .ensures)))
+    (λ c. let noted = c .before .before in
+    takes-for (write _) (ap kindIs (noted .before .before .before .before .kind2 .given .1))
+    (takes-write _ _ _ _ (noted .before .handler-row2 .ensures) (noted .note-write .ensures)))
     -- no step
     (λ c s e. absurd (no-step s (ap kindIs (c .enum-told3 .given .1)) e)))

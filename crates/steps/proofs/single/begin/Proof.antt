@@ -1,4 +1,4 @@
--- `turns::single::begin` meets its contract: the handler's block is lent, and comes back as the block of one that has begun.
+-- `steps::single::begin` meets its contract: the handler's block is lent, and comes back as the block of one that has begun.
 use mathlib.Core.Path.{refl}
 use native.Mathlib.Omega.{arith}
 use borrow.Author.Needs.{needs}

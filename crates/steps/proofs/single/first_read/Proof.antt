@@ -1,4 +1,4 @@
--- `turns::single::first_read` meets its contract: the cell is copied out, then the handler's block is lent and comes back.
+-- `steps::single::first_read` meets its contract: the cell is copied out, then the handler's block is lent and comes back.
 use native.Mathlib.Omega.{arith}
 use borrow.Author.Needs.{needs}
 use Rattle.layout.proofs.Places.{cell-ends, cell-start-small}
@@ -13,6 +13,8 @@ first-read-spec =
     (tie.spec
     (λ c κs. search needs)
     -- the cell lies in the words
+    (λ c. let entry = c .before .before in
+    omega (arith, cell-start-small (entry .args .m) (entry .args .x) (omega arith) (omega arith)))
     (λ c. let entry = c .before .before in
     omega (arith, cell-start-small (entry .args .m) (entry .args .x) (omega arith) (omega arith)))
     (λ c. let entry = c .before .before .before in

@@ -1,4 +1,4 @@
--- `turns::single::write` meets its contract: the handler's block is lent, and comes back as the block of one that has written.
+-- `steps::single::write` meets its contract: the handler's block is lent, and comes back as the block of one that has written.
 use mathlib.Core.Path.{refl}
 use native.Mathlib.Omega.{arith}
 use borrow.Author.Needs.{needs}

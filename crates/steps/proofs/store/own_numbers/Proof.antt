@@ -1,4 +1,4 @@
--- `turns::store::own_numbers` meets its contract: the own numbers of the cells passed are in the row.
+-- `steps::store::own_numbers` meets its contract: the own numbers of the cells passed are in the row.
 use Prim.Native.Nat.{_≤_, _-_}
 use native.Mathlib.Omega.{arith}
 use lib.ListN.{replicate}

@@ -1,4 +1,4 @@
--- `turns::store::put_cell` meets its contract: the value in front, and the numbers of the row behind it.
+-- `steps::store::put_cell` meets its contract: the value in front, and the numbers of the row behind it.
 use Prim.Native.Nat.{ℕ}
 use mathlib.Core.Path.{_≡_, _∙_}
 use mathlib.Core.List.{List}

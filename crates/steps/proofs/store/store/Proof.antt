@@ -1,4 +1,4 @@
--- `turns::store::store` meets its contract: the written cells passed are stored.
+-- `steps::store::store` meets its contract: the written cells passed are stored.
 use Prim.Native.Nat.{_≤_, _-_}
 use native.Mathlib.Omega.{arith}
 use Rattle.block.specs.Blocks.{rowTable}

@@ -1,4 +1,4 @@
--- `turns::store::store_one` meets its contract: a written cell's words are lent and come back with the value and the numbers.
+-- `steps::store::store_one` meets its contract: a written cell's words are lent and come back with the value and the numbers.
 use Prim.Native.Nat.{ℕ, _+_, _*_, _≤_, _<_}
 use mathlib.Core.Path.{_≡_, sym, _∙_}
 use mathlib.Core.Bool.{true}
@@ -7,7 +7,7 @@ use borrow.Author.Needs.{needs}
 use Rattle.layout.specs.Bits.{hasBit}
 use Rattle.layout.specs.Places.{cellLong, cellStart}
 use Rattle.layout.proofs.Places.{cell-ends, cell-start-small}
-use Rattle.steps.proofs.Lent.{lent-length, lent-back}
+use Rattle.places.proofs.Lent.{lent-length, lent-back}
 use Rattle.steps.proofs.store.store_one.Statement.{statement}
 use Rattle.steps.proofs.store.store_one.Tie as tie
 

@@ -1,4 +1,4 @@
--- `turns::tries::attempt` meets its contract: abort 2 first, then abort 3, and else the commit.
+-- `steps::tries::attempt` meets its contract: abort 2 first, then abort 3, and else the commit.
 use Prim.Native.Nat.{ℕ, _+_, _-_, _≤_}
 use mathlib.Core.Path.{_≡_, refl, sym, _∙_}
 use mathlib.Core.Bool.{Bool, false}

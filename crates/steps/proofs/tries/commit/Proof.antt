@@ -1,4 +1,4 @@
--- `turns::tries::commit` meets its contract: all numbers are stamped, then the written cells are stored, then the block is settled.
+-- `steps::tries::commit` meets its contract: all numbers are stamped, then the written cells are stored, then the block is settled.
 use Prim.Native.Nat.{_+_, _≤_}
 use mathlib.Core.Path.{_≡_}
 use native.Mathlib.Omega.{arith}
@@ -18,7 +18,7 @@ lies c = omega (arith, block-lies (c .before .before .pre .0 .seated) (c .block-
 
 -- What was there before the cells were stored, and before the block was settled.
 abbrev stored-from : tie.After-slice-known3 → tie.After-block-at
-stored-from c = c .before .before .before .before .before .before .before .before .before .before .before .before
+stored-from c = c .before .before .before .before .before .before .before .before .before .before .before .before .before
 
 -- The stored words are as many as before.
 stored-long : (c : tie.After-slice-known3) → length (c .before .before .store .last .0) ≡ length (stored-from c .before .before .args .body .now)
@@ -38,15 +38,14 @@ commit-spec =
     let (ready, own) = at .before .before .pre in
     (block-words (ready .seated) (at .block-at .ensures), own-fits (ready .seated) (at .block-at .ensures) own))
     -- the copies are copied out, and the written set
-    (λ c. omega (arith, lies (c .before .before .before .before)))
-    (λ c. search needs)
-    (λ c. omega (arith, lies (c .before .before .before .before)))
-    (λ c κs. omega (arith, lies (c .before .before .before .before)))
+    (λ c κs. search needs)
     (λ c. omega (arith, lies (c .before .before .before .before .before)))
-    (λ c. omega (arith, lies (c .before .before .before .before .before)))
+    (λ c κs. omega (arith, lies (c .before .before .before .before .before)))
     (λ c. omega (arith, lies (c .before .before .before .before .before .before)))
+    (λ c. omega (arith, lies (c .before .before .before .before .before .before)))
+    (λ c. omega (arith, lies (c .before .before .before .before .before .before .before)))
     -- the cells are stored
-    (λ c κs. let formed = c .before .before .before .before .before .before .before .before .before .before .before .pre .0 .seated .formed in
+    (λ c κs. let formed = c .before .before .before .before .before .before .before .before .before .before .before .before .pre .0 .seated .formed in
     omega (arith, formed .few, formed .good .long))
     -- the block is settled
     (λ c. omega (arith, lies (stored-from c)))
@@ -61,5 +60,6 @@ commit-spec =
     let (ready, own) = at .before .before .pre in
     let stored = c .before .before .before .before .before .before .before in
     let copied = stored .before .before .before .before .before in
-    commits (ready .seated) (at .block-at .ensures) own (copied .before .before .stamps .ensures) (copied .copy-out .ensures)
+    commits (ready .seated) (at .block-at .ensures) (copied .before .copies .ensures) own (copied .before .before .before .stamps .ensures)
+    (copied .copy-out .ensures)
     (stored .store .ensures) (c .before .before .settle .ensures)))

@@ -1,0 +1,4 @@
+-- Laws of a turn.
+pub mod Refusing
+pub mod Taking
+pub mod Turning
