@@ -43,9 +43,9 @@ pub fn open(words: &mut [u32], m: u32, n: u32) -> Opened
     if words.len() < limits::FRONT + long {
         return Opened::Rejected(Refusal::TooShort);
     }
+    words::clear(&mut words[limits::FRONT..], 0, long);
     words[places::CELLS] = m;
     words[places::HANDLERS] = n;
-    words::clear(&mut words[limits::FRONT..], 0, long);
     Opened::Ready
 }
 

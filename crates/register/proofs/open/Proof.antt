@@ -2,17 +2,19 @@
 use Prim.Native.Nat.{_-_, _≤_}
 use mathlib.Core.Path.{_≡_, sym, ap, _∙_, subst}
 use mathlib.Core.Bool.{true}
+use mathlib.Core.List.{_∷_}
 use native.Mathlib.Omega.{arith}
-use lib.ListN.{length, length-set, length-drop, take, drop}
+use lib.ListN.{length, set, length-set, length-drop}
+use borrow.Rule.Slice.PartMut.{putMid}
 use borrow.Author.Needs.{needs}
 use borrow.Author.Tests.{not-true, not-false}
 use Rattle.rules.specs.steps.Replies.{ready}
 use Rattle.rules.specs.steps.Register.{zeros}
 use Rattle.rules.specs.steps.Checks.{inRange}
 use Rattle.rules.proofs.steps.Given.{range-tested}
-use Rattle.layout.specs.Places.{size, bodyLong, bodyOf}
+use Rattle.layout.specs.Places.{cellsOf, handlersOf, size, bodyLong, bodyOf}
 use Rattle.layout.proofs.Places.{body-small}
-use Rattle.layout.proofs.Fronts.{counted, counted-lent, counted-back}
+use Rattle.layout.proofs.Fronts.{behind-is, register-back}
 use Rattle.promises.specs.Opening.{OpeningPromise}
 use Rattle.words.specs.Rows.{Changed}
 use Rattle.register.proofs.Opening.{opening-out, opening-short, opening-ready, cleared-holds}
@@ -42,11 +44,16 @@ enough c = omega (arith, told c .body-words .ensures)
 cleared : (c : tie.After-slice-known2) → let args = told c .before .before .before .before .args in
     Changed 0 (bodyLong (args .m) (args .n)) zeros (bodyOf (args .words .now)) (c .before .before .clear .last .0)
 cleared c =
-    let args = told c .before .before .before .before .args in
-    let words = counted (args .words .now) (args .m) (args .n) (omega (arith, enough c)) in
-    subst (λ body. Changed 0 (bodyLong (args .m) (args .n)) zeros body (c .before .before .clear .last .0))
-    (counted-lent (args .words .now) (args .m) (args .n) (omega (arith, enough c)))
-    (subst (λ long. Changed 0 long zeros (take (length words - 2) (drop 2 words)) (c .before .before .clear .last .0)) (told c .body-words .ensures) (c .before .before .clear .ensures))
+    let words = told c .before .before .before .before .args .words .now in
+    let left = c .before .before .clear .last .0 in
+    subst (λ long. Changed 0 long zeros (bodyOf words) left) (told c .body-words .ensures)
+    (subst (λ body. Changed 0 (told c .body-words .result) zeros body left) (behind-is 2 words) (c .before .before .clear .ensures))
+
+-- What comes back stands behind m and n again.
+back : (c : tie.After-slice-known2) → let words = told c .before .before .before .before .args .words .now in
+    let left = c .before .before .clear .last .0 in
+    putMid 2 (length words - 2) words left ≡ cellsOf words ∷ handlersOf words ∷ left
+back c = register-back (told c .before .before .before .before .args .words .now) (omega (arith, enough c)) (c .before .before .clear .last .0)
 
 pub open-spec : {M : Type 1} → statement M
 open-spec =
@@ -59,18 +66,16 @@ open-spec =
     -- 21
     (λ c. omega (arith, small c))
     (λ c. opening-short _ _ _ (ranged (c .before .before)) (omega (arith, c .before .body-words .ensures)))
-    -- m and n in front, and a cleared body
+    -- a cleared body, and m and n in front
     (λ c. omega arith)
-    (λ c. simp length-set (omega arith))
-    (λ c. simp length-set (omega arith))
-    (λ c. simp length-set (omega arith))
+    (λ c. omega arith)
     (λ c. search needs)
-    (λ c κs. let args = c .before .before .before .before .before .before .args in
-    rw (counted-lent (args .words .now) (args .m) (args .n) (omega arith)) (omega (arith, length-drop 2 (args .words .now))))
+    (λ c κs. let words = c .before .before .before .before .before .before .args .words .now in
+    rw (behind-is 2 words) (omega (arith, length-drop 2 words)))
+    (λ c. omega (arith, ap length (back c)))
+    (λ c. simp length-set (omega (arith, ap length (back c))))
+    (λ c. simp length-set (ap length (back c)
+    ∙ (omega (arith, cleared c .untouched .size, length-drop 2 (told c .before .before .before .before .args .words .now), enough c))))
     (λ c. let args = told c .before .before .before .before .args in
-    let same = counted-back (args .words .now) (args .m) (args .n) (omega (arith, enough c)) (c .before .before .clear .last .0) in
-    ap length same ∙ (omega (arith, cleared c .untouched .size, length-drop 2 (args .words .now), enough c)))
-    (λ c. let args = told c .before .before .before .before .args in
-    subst (OpeningPromise (args .words .now) (args .m) (args .n) ready)
-    (sym (counted-back (args .words .now) (args .m) (args .n) (omega (arith, enough c)) (c .before .before .clear .last .0)))
+    subst (λ words. OpeningPromise (args .words .now) (args .m) (args .n) ready (set (set words 0 (args .m)) 1 (args .n))) (sym (back c))
     (opening-ready (args .words .now) (args .m) (args .n) (ranged (told c .before)) (enough c) (cleared-holds _ _ _ _ (cleared c)))))
