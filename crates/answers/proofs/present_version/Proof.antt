@@ -27,8 +27,7 @@ present-version-spec =
     μ-loop
     -- before the first turn
     (λ c. (omega arith, omega arith, omega arith, λ m inside. (sym (writer-none m _ _ inside), sym (versions-none m _ _ inside))))
-    -- the row
-    (λ c. omega arith)
+    -- the commit
     (λ c. omega arith)
     (λ c κs. omega arith)
     -- one version more
@@ -37,7 +36,7 @@ present-version-spec =
     (λ c. omega arith)
     (λ c. omega arith)
     (λ c. let loop = c .before .before .before .loop in
-    let row = c .before .wrote .ensures in (
+    let row = c .before .commit-wrote .ensures in (
       omega arith,
       ⊎-elim (λ wrote. omega arith) (λ other. omega arith) (c .if1 .came),
       ⊎-elim (λ wrote. omega arith) (λ other. omega arith) (c .if1 .came),
