@@ -5,7 +5,7 @@ use mathlib.Core.Bool.{Bool, true, false, not, _&&_}
 use mathlib.Core.List.{[], _∷_}
 use mathlib.Core.Option.{Option, none, some}
 use borrow.Author.Tests.{le-leb, lt-leb}
-use Rattle.rules.specs.steps.Replies.{Refusal, notWellFormed, noHandler, noCell, alreadyOpen, notOpen, unknownStep}
+use Rattle.rules.specs.steps.Replies.{Refusal, noHandler, noCell, alreadyOpen, notOpen, unknownStep}
 use Rattle.rules.specs.steps.Checks.{_when_, firstHit, Asked, isUnknown, isBeyond, isBegin, stepChecks}
 
 -- What the last two checks say, by whether the step is a begin and whether the handler is open: 13 or 14, or nothing.
@@ -25,11 +25,6 @@ phase-checks false true = refl
 phase-checks false false = refl
 
 module _ (a : Asked) where
-  -- 10.
-  pub stops-10 : a .wellFormed ≡ false → some notWellFormed ≡ firstHit (stepChecks a)
-  unfolding firstHit stepChecks
-  stops-10 malformed = rw malformed
-
   module _ (formed : a .wellFormed ≡ true) where
     -- 15.
     pub stops-15 : isUnknown (a .kind) ≡ true → some unknownStep ≡ firstHit (stepChecks a)

@@ -25,7 +25,7 @@ use Rattle.ledger.specs.Noting.{emptyEntry, readEntry, noteRead, noteOutcome, n
 use Rattle.ledger.specs.Promises.{isCommit}
 use Rattle.ledger.proofs.Deeds.{hasSource, copies-at, reads-at, written-at}
 use Rattle.ledger.proofs.Commits.{commits-count}
-use Rattle.ledger.proofs.Notes.{now-is}
+use Rattle.ledger.proofs.Faithful.{now-is}
 use Rattle.judge.specs.Taking.{answerOf, JudgeReady, HasRoom, TakesNoted}
 
 -- What is noted in a row that is the handler's is noted in the handler's row.

@@ -21,7 +21,7 @@ use Rattle.layout.proofs.Rows.{below-beyond}
 use Rattle.ledger.specs.Entries.{ledgerLong, mostCommits, commitsNoted, Ledger, isLedger, handlerRow, entryIn}
 use Rattle.ledger.specs.Histories.{isOpen, historyIn}
 use Rattle.ledger.specs.Promises.{isCommit}
-use Rattle.ledger.proofs.Notes.{opened-is}
+use Rattle.ledger.proofs.Faithful.{opened-is}
 use Rattle.judge.specs.Taking.{answerOf}
 use Rattle.judge.proofs.Answers.{isStale, try-asked}
 

@@ -3,8 +3,8 @@ use Prim.Native.Nat.{ℕ, _+_, _-_, _≤_}
 use mathlib.Core.Path.{_≡_, sym, ap, ap₂, _∙_}
 use mathlib.Core.List.{List, [], _∷_, _++_, append-assoc, append-nil}
 use native.Mathlib.Omega.{arith}
-use lib.ListN.{length, length-drop, take, drop, set, length-set, take-append-drop}
-use lib.Seq.{drop-cons, drop-drop, take-add, take-all, drop-length, drop-set-lt, getD-set-same, getD-set-other}
+use lib.ListN.{length, length-drop, take, drop, take-append-drop}
+use lib.Seq.{drop-cons, drop-drop, take-add, take-all, drop-length}
 use borrow.Rule.Slice.PartMut.{putMid, post-is}
 use Rattle.layout.specs.Rows.{splice}
 use Rattle.layout.specs.Places.{cellsOf, handlersOf}
@@ -44,26 +44,3 @@ behind-back front words some last =
 pub register-back : (words : List ℕ) → 2 ≤ length words → (last : List ℕ)
     → putMid 2 (length words - 2) words last ≡ cellsOf words ∷ handlersOf words ∷ last
 register-back words some last = behind-back 2 words some last ∙ ap (λ (front : List ℕ). front ++ last) (counts-front words some)
-
--- Words with m and n stored in front.
-module _ (words : List ℕ) (m n : ℕ) (some : 2 ≤ length words) where
-  abbrev pub counted : List ℕ
-  counted = set (set words 0 m) 1 n
-
-  -- The body is as it was.
-  pub counted-body : drop 2 counted ≡ drop 2 words
-  counted-body = drop-set-lt 2 (set words 0 m) 1 n (omega arith) ∙ drop-set-lt 2 words 0 m (omega arith)
-
-  -- All words behind m and n, as they are lent, are the body.
-  pub counted-lent : take (length counted - 2) (drop 2 counted) ≡ drop 2 words
-  counted-lent = behind-is 2 counted ∙ counted-body
-
-  -- What comes back of all words behind m and n stands behind them.
-  pub counted-back : (last : List ℕ) → putMid 2 (length counted - 2) counted last ≡ m ∷ n ∷ last
-  counted-back last = register-back counted (simp length-set some) last ∙ ap₂ (λ (a b : ℕ). a ∷ b ∷ last) first second
-    where
-      first : cellsOf counted ≡ m
-      first = getD-set-other (set words 0 m) 1 0 n 0 (omega arith) ∙ getD-set-same words 0 m 0 (omega arith)
-
-      second : handlersOf counted ≡ n
-      second = getD-set-same (set words 0 m) 1 n 0 (simp length-set (omega arith))

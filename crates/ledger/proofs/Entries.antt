@@ -15,7 +15,7 @@ use Rattle.layout.proofs.Bits.{has-mask}
 use Rattle.layout.proofs.Rows.{part-length, part-at, row-length, row-at, row-first, row-behind, row-cut, row-last}
 use Rattle.layout.proofs.Untouched.{Untouched, splice-part, splice-untouched, untouched-is}
 use Rattle.ledger.specs.Entries.{Entry, entryIn, pourEntry, withEntry}
-use Rattle.ledger.proofs.Noted.{SameAt}
+use Rattle.ledger.proofs.OneDeedMore.{SameAt}
 
 -- The words hold an entry.
 pub record HoldsEntry (e : Entry) (words : List ℕ) : Type 0 where

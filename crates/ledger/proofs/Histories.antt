@@ -18,7 +18,7 @@ use Rattle.layout.proofs.Rows.{below-inside}
 use Rattle.ledger.specs.Entries.{Ledger, Entry, entryIn, commitsNoted, handlerRow, commitRow}
 use Rattle.ledger.specs.Histories.{lookOf, setOf, deedsOf, commitOf, commitsIn, isOpen, historyIn}
 use Rattle.ledger.specs.Noting.{emptyEntry, committedEntry}
-use Rattle.ledger.proofs.Noted.{SameAt}
+use Rattle.ledger.proofs.OneDeedMore.{SameAt}
 use Rattle.ledger.proofs.Entries.{SameEntry}
 
 -- Entries that say the same of the first m cells say the same deeds of them.

@@ -1,12 +1,12 @@
 -- The laws of the judge's words, in the order in which they are best read.
 pub mod Deeds
-pub mod Noted
+pub mod OneDeedMore
 pub mod Entries
 pub mod Tested
 pub mod Histories
 pub mod Commits
 pub mod Versions
-pub mod Notes
+pub mod Faithful
 pub mod Outcomes
 pub mod Steps
 pub mod Opened

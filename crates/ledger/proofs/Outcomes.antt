@@ -22,10 +22,10 @@ use Rattle.ledger.specs.Histories.{deedsOf, isOpen, historyIn}
 use Rattle.ledger.specs.Noting.{emptyEntry, readEntry, writtenEntry, noteRead, noteOutcome}
 use Rattle.ledger.specs.Promises.{isCommit}
 use Rattle.ledger.proofs.Deeds.{hasSource, reads-at, written-at}
-use Rattle.ledger.proofs.Noted.{read-noted, write-noted}
+use Rattle.ledger.proofs.OneDeedMore.{read-noted, write-noted}
 use Rattle.ledger.proofs.Histories.{empty-deeds, same-deeds}
-use Rattle.ledger.proofs.Notes.{Keeps, keeps-itself, entry-keeps, seated, now-is, opened-is, handler-noted}
-use Rattle.ledger.proofs.Notes.{commit-keeps, commit-noted}
+use Rattle.ledger.proofs.Faithful.{Keeps, keeps-itself, entry-keeps, seated, now-is, opened-is, handler-noted}
+use Rattle.ledger.proofs.Faithful.{commit-keeps, commit-noted}
 
 -- A repeated read is no deed that an answer asks.
 again-same : {S : Setting ℕ} (x v : ℕ) (deeds : List (Deed ℕ)) → SameDeeds S (again x v ∷ deeds) deeds

@@ -18,7 +18,7 @@ use Rattle.ledger.specs.Promises.{limited, judgedReply}
 use Rattle.ledger.specs.Runs.{JudgedRun, opened, stepped, JudgeTells}
 use Rattle.ledger.proofs.Histories.{Says}
 use Rattle.ledger.proofs.Commits.{commits-count}
-use Rattle.ledger.proofs.Notes.{Keeps}
+use Rattle.ledger.proofs.Faithful.{Keeps}
 use Rattle.ledger.proofs.Steps.{reply-limited, reply-noted, reply-keeps}
 use Rattle.ledger.proofs.Opened.{ledger-ready}
 

@@ -25,7 +25,7 @@ use Rattle.ledger.specs.Histories.{historyIn}
 use Rattle.ledger.specs.Noting.{noteOutcome, noteWords}
 use Rattle.ledger.specs.Promises.{isCommit, reportsCommit, limited, judgedReply}
 use Rattle.ledger.proofs.Tested.{tested}
-use Rattle.ledger.proofs.Notes.{Keeps, keeps-itself}
+use Rattle.ledger.proofs.Faithful.{Keeps, keeps-itself}
 use Rattle.ledger.proofs.Outcomes.{outcome-noted, outcome-keeps}
 
 -- What the history says of a step is a refusal, or the answer to a step that is free.

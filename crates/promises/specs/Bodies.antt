@@ -1,3 +1,4 @@
+-- For internal contracts alone: what our own functions are called with and leave. Nothing here need be believed.
 -- What a turn promises of a register's body, whatever stands in front of it and under every code sheet: its reply, and every word of the
 -- body afterwards.
 use Prim.Native.Nat.{ℕ}

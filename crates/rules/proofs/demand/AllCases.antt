@@ -12,7 +12,7 @@ use Rattle.rules.specs.steps.Checks.{firstHit, stepChecks}
 use Rattle.rules.specs.steps.Figure.{joined, taken, wrote, shown, stamped, stored, begun, isTorn, isOvertaken, isSpent}
 use Rattle.rules.specs.steps.Figure.{aborting, committing, unlessAborted, readChecks, tryChecks, firstRead, reading, trying, step}
 use Rattle.rules.specs.steps.Turn.{stepRefusal, turned, turn}
-use Rattle.rules.specs.demand.Cases.{CaseStep, Start, opened, given, End, register, loose, Case, cases}
+use Rattle.rules.specs.demand.Cases.{CaseStep, CaseStart, opened, given, CaseEnd, register, loose, Case, cases}
 
 -- A row that opens a register of m cells and n handlers and ends with one.
 pub record Row : Type 0 where
@@ -22,7 +22,7 @@ pub record Row : Type 0 where
   pub cells : List (List ℕ)
 
 -- The row of a case, if it is such a one.
-pub rowOf : List CaseStep → Start → End → List Row
+pub rowOf : List CaseStep → CaseStart → CaseEnd → List Row
 rowOf lines (opened m n long reply) (register cells handlers beyond) = record { m = m; n = n; lines = lines; cells = cells } ∷ []
 rowOf lines (opened m n long reply) (loose words) = []
 rowOf lines (given words) (register cells handlers beyond) = []

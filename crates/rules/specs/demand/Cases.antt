@@ -14,21 +14,21 @@ pub record CaseStep : Type 0 where
 
 -- How a case begins: a buffer of so many words, each 7, is opened for m cells and n handlers, with the reply that is expected; or
 -- words are given.
-pub data Start : Type 0 where
-  opened : (m n long : ℕ) → Numbers → Start
-  given : List ℕ → Start
+pub data CaseStart : Type 0 where
+  opened : (m n long : ℕ) → Numbers → CaseStart
+  given : List ℕ → CaseStart
 
 -- What a case ends with: a register's cells, each its value and its numbers, its handlers' blocks, and the words beyond; or words
 -- that are no register.
-pub data End : Type 0 where
-  register : (cells handlers : List (List ℕ)) → List ℕ → End
-  loose : List ℕ → End
+pub data CaseEnd : Type 0 where
+  register : (cells handlers : List (List ℕ)) → List ℕ → CaseEnd
+  loose : List ℕ → CaseEnd
 
 -- A case.
 pub record Case : Type 0 where
-  pub start : Start
+  pub start : CaseStart
   pub lines : List CaseStep
-  pub end : End
+  pub end : CaseEnd
 
 -- ── How rows are written ──────────────────────────────────────────────
 
