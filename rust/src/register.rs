@@ -43,7 +43,7 @@ impl Register<'static> {
     /// ```
     pub fn new(cells: u32, handlers: u32) -> Result<Register<'static>, Refusal> {
         let mut words = vec![0; needed(cells, handlers).unwrap_or(0)];
-        raw::open(&mut words, cells, handlers)?;
+        Refusal::of_opening(raw::open(&mut words, cells, handlers))?;
         Ok(Register { words: Words::Own(words) })
     }
 }
@@ -62,7 +62,7 @@ impl<'a> Register<'a> {
     /// # Ok::<(), Refusal>(())
     /// ```
     pub fn open(words: &'a mut [u32], cells: u32, handlers: u32) -> Result<Register<'a>, Refusal> {
-        raw::open(words, cells, handlers)?;
+        Refusal::of_opening(raw::open(words, cells, handlers))?;
         Ok(Register::resume(words))
     }
 
@@ -115,7 +115,7 @@ impl<'a> Register<'a> {
             Words::Own(words) => words,
             Words::Lent(words) => &mut **words,
         };
-        raw::step(words, handler, code, value)
+        Reply::of_step(raw::step(words, handler, code, value))
     }
 
     /// Takes a step.

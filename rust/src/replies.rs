@@ -139,6 +139,14 @@ impl Refusal {
         Refusal::ALL.into_iter().find(|refusal| refusal.number() == number)
     }
 
+    /// What the number that an opening gives comes to.
+    pub(crate) fn of_opening(number: u32) -> Result<(), Refusal> {
+        match number {
+            0 => Ok(()),
+            _ => Err(Refusal::from_number(number).expect("an opening is refused with a number of docs/REPLIES.md")),
+        }
+    }
+
     fn words(self) -> &'static str {
         match self {
             Refusal::NotWellFormed => "the words are no well-formed register, or too short for one",
@@ -234,6 +242,11 @@ impl Reply {
             (4, number) => Refusal::from_number(number).map(Reply::Refused),
             _ => None,
         }
+    }
+
+    /// The reply of the number that a step gives: the kind is the upper half, the detail the lower.
+    pub(crate) fn of_step(packed: u64) -> Reply {
+        Reply::from_numbers((packed >> 32) as u32, packed as u32).expect("a step is replied to with numbers of docs/REPLIES.md")
     }
 
     /// The reply as a result: a refusal is an error, an abort an outcome, and of anything else the detail is left.

@@ -1,4 +1,7 @@
 //! Comparison and measurement link the static library of the proved register, whose folder ZIDLEMOWO_LIB names.
+//! Nothing else of this crate needs it.
+
+/// Says where the library is, where the feature `proved` asks for it.
 fn main() {
     println!("cargo:rerun-if-env-changed=ZIDLEMOWO_LIB");
     if std::env::var_os("CARGO_FEATURE_PROVED").is_some() {

@@ -6,14 +6,16 @@ use mathlib.Core.List.{List}
 use mathlib.Core.Option.{some}
 use lib.ListN.{length, replicate, length-replicate}
 use borrow.Author.Tests.{lt-ltb}
-use Rattle.rules.specs.Replies.{ready}
-use Rattle.rules.specs.Register.{fresh}
-use Rattle.rules.specs.Given.{InRange}
-use Rattle.rules.specs.History.{everyCommit, noHistory}
-use Rattle.rules.proofs.Tables.{found}
-use Rattle.rules.proofs.Alike.{length-same, replay-same, versionCount-same}
-use Rattle.layout.specs.View.{wordSetting, view, holding}
-use Rattle.layout.proofs.Places.{size-small}
+use Rattle.rules.specs.steps.Replies.{ready}
+use Rattle.rules.specs.steps.Register.{fresh}
+use Rattle.rules.specs.steps.Given.{InRange}
+use Rattle.rules.specs.history.History.{everyCommit, noHistory}
+use Rattle.rules.proofs.steps.Tables.{found}
+use Rattle.rules.proofs.history.Alike.{length-same, replay-same, versionCount-same}
+use Rattle.layout.specs.Places.{bodyOf}
+use Rattle.layout.specs.View.{wordSetting, view, registerIn}
+use Rattle.layout.proofs.Places.{body-small}
+use Rattle.replies.specs.Ends.{cellLine}
 use Rattle.promises.specs.Opening.{OpeningPromise}
 use Rattle.promises.specs.Runs.{opened}
 use Rattle.promises.proofs.Runs.{opens}
@@ -24,12 +26,12 @@ use Rattle.ledger.proofs.Histories.{Says}
 use Rattle.ledger.proofs.Opened.{ledger-ready}
 use Rattle.schedule.specs.Sound.{handlersIn, cellsIn, orderIn}
 use Rattle.schedule.specs.Taking.{atStart}
-use Rattle.schedule.specs.Judging.{fileRefusal}
-use Rattle.schedule.specs.Runs.{Played, ran, runOf}
-use Rattle.schedule.specs.Shown.{cellLine}
-use Rattle.schedule.proofs.Judges.{good-exactly}
+use Rattle.schedule.specs.Admitting.{fileRefusal}
+use Rattle.schedule.proofs.Admits.{good-exactly}
 use Rattle.judge.specs.Ending.{judgedEnd}
-use Rattle.playing.proofs.RunOf.{shownFrom, run-of-places, refused-run}
+use Rattle.runs.specs.ByRules.{Played, ran, runOf}
+use Rattle.runs.specs.RunOfPlaces.{shownFrom}
+use Rattle.runs.proofs.RunOf.{run-of-places, refused-run}
 use Rattle.agreement.specs.Agreement.{judgedFrom, Agree, JudgeAgrees}
 use Rattle.agreement.proofs.Cut.{cut-lines, cut-stops}
 use Rattle.agreement.proofs.Counts.{commits-noted}
@@ -38,7 +40,7 @@ use Rattle.agreement.proofs.Alongside.{places-alongside}
 
 -- Words beside each other show the same cells.
 cells-agree : {m n : ℕ} {words ledger : List ℕ} → Beside m n words ledger → (c : ℕ) → c < m
-    → judgedEnd ledger c ≡ some (cellLine c (view m n words .cells c))
+    → judgedEnd ledger c ≡ some (cellLine c (view m n (bodyOf words) .cells c))
 unfolding judgedEnd
 cells-agree {m} beside c inside =
     let told = words-told (beside .run) c in
@@ -58,9 +60,9 @@ module _ {m n : ℕ} {ledger : List ℕ} (says : Says m n ledger noHistory) wher
 
 -- A register can be opened for every m and n in range.
 register-opens : {m n : ℕ} → InRange m n
-    → OpeningPromise (replicate 2642 0) m n ready (holding (replicate 2642 0) m n (fresh (wordSetting m)))
+    → OpeningPromise (replicate 2642 0) m n ready (registerIn (replicate 2642 0) m n (fresh (wordSetting m)))
 register-opens {m} {n} range =
-    opens (replicate 2642 0) m n range (rw (length-replicate {A = ℕ} 2642 0) (size-small m n (range .cells) (range .handlers)))
+    opens (replicate 2642 0) m n range (rw (length-replicate {A = ℕ} 2642 0) (omega (arith, body-small m n (range .cells) (range .handlers))))
 
 -- The judge agrees with what a file comes to, if it is run.
 abbrev Agrees : List ℕ → List ℕ → Played → Type 0
@@ -82,7 +84,7 @@ module _ (file words : List ℕ) where
   file-agrees = found (fileRefusal file)
       (λ refusal e. rw (refused-run file e) tt)
       (λ free. let opening = register-opens (good-exactly file .0 free .sound .range) in
-      subst (Agrees file words) (sym (run-of-places file free opening)) (λ before ledger. run-agrees ledger opening))
+      subst (Agrees file words) (sym (run-of-places file _ _ free opening)) (λ before ledger. run-agrees ledger opening))
 
 -- THE JUDGE AGREES.
 pub judge-agrees : JudgeAgrees

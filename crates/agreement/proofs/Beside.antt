@@ -6,11 +6,11 @@ use mathlib.Core.Path.{_≡_, refl, sym, ap, _∙_, subst}
 use mathlib.Core.Bool.{true, false}
 use mathlib.Core.List.{List}
 use borrow.Author.Tests.{le-leb, lt-leb}
-use Rattle.rules.specs.Codes.{kindOf}
-use Rattle.rules.specs.Replies.{tooManyCommits, Reply}
-use Rattle.rules.specs.History.{History, noteReply}
-use Rattle.rules.specs.Demand.{Ask}
-use Rattle.rules.specs.Judge.{judgement}
+use Rattle.rules.specs.steps.Codes.{plainSheet}
+use Rattle.rules.specs.steps.Replies.{tooManyCommits, Reply}
+use Rattle.rules.specs.history.History.{History, noteReply}
+use Rattle.rules.specs.demand.Demand.{Ask}
+use Rattle.rules.specs.demand.Judge.{judgement}
 use Rattle.layout.specs.View.{wordSetting}
 use Rattle.promises.specs.Stepping.{StepPromise}
 use Rattle.promises.specs.Runs.{WordRun, stepped}
@@ -21,10 +21,8 @@ use Rattle.ledger.proofs.Steps.{limited-other}
 use Rattle.ledger.proofs.Histories.{Says}
 use Rattle.ledger.proofs.Runs.{says-reply, says-after}
 use Rattle.schedule.specs.Scripts.{ScriptStep}
-use Rattle.schedule.specs.Lines.{theRegister}
-use Rattle.judging.specs.Player.{theJudge}
-use Rattle.judging.specs.Stopping.{saysTooMany}
-use Rattle.agreement.proofs.Counts.{told-other, counted, judge-counts}
+use Rattle.runs.specs.Players.{theRegister, theJudge, replyBy, wordsBy}
+use Rattle.agreement.proofs.Counts.{counted, judge-counts}
 
 -- The register's words after a run of m cells and n handlers, and a ledger of as many that says the run's history.
 pub record Beside (m n : ℕ) (words ledger : List ℕ) : Type 0 where
@@ -40,46 +38,42 @@ Room room ledger = commitsNoted ledger + room ≡ 64
 module _ {m n : ℕ} {words ledger : List ℕ} (beside : Beside m n words ledger) (i : ℕ) (step : ScriptStep) where
   -- What the register replies.
   abbrev reply : Reply ℕ
-  reply = theRegister .reply words i step
+  reply = replyBy theRegister words i step
 
   -- Its step keeps its promise.
-  promise : StepPromise words i (step .code) (step .value) reply (theRegister .after words i step)
+  promise : StepPromise words i (step .code) (step .value) reply (wordsBy theRegister words i step)
   promise = record { replied = refl; left = refl }
 
   -- The register's reply is what the history tells,
   told : reply ≡ judgement (wordSetting m) n (beside .history) i (step .code)
   told = words-inherit m n (beside .asks) words (beside .history) (beside .run) .replies promise
 
-  -- which is never 33,
-  pub register-other : saysTooMany reply ≡ false
-  register-other = rw told (told-other (wordSetting m) n (beside .history) i (step .code))
-
   -- and the judge's is the same within the limit.
-  within : theJudge .reply ledger i step ≡ limited (commitsNoted ledger) reply
+  within : replyBy theJudge ledger i step ≡ limited (commitsNoted ledger) reply
   within = says-reply (beside .says) i (step .code) ∙ ap (limited (commitsNoted ledger)) (sym told)
 
   -- A commit without room is refused with 33.
-  pub judge-full : Room 0 ledger → reportsCommit reply ≡ true → theJudge .reply ledger i step ≡ Reply.refused tooManyCommits
+  pub judge-full : Room 0 ledger → reportsCommit reply ≡ true → replyBy theJudge ledger i step ≡ Reply.refused tooManyCommits
   unfolding limited
   judge-full has reports = within ∙ rw (le-leb mostCommits (commitsNoted ledger) (omega (arith, has)), reports)
 
   -- Where there is room, the judge's reply is the same,
-  pub judge-with-room : (room : ℕ) → Room (suc room) ledger → theJudge .reply ledger i step ≡ reply
+  pub judge-with-room : (room : ℕ) → Room (suc room) ledger → replyBy theJudge ledger i step ≡ reply
   unfolding limited
   judge-with-room room has = within ∙ rw (lt-leb mostCommits (commitsNoted ledger) (omega (arith, has)))
 
   -- and so it is to all that is no commit.
-  pub judge-other : reportsCommit reply ≡ false → theJudge .reply ledger i step ≡ reply
+  pub judge-other : reportsCommit reply ≡ false → replyBy theJudge ledger i step ≡ reply
   judge-other reports = within ∙ limited-other (commitsNoted ledger) reply reports
 
-  module _ (alike : theJudge .reply ledger i step ≡ reply) where
+  module _ (alike : replyBy theJudge ledger i step ≡ reply) where
     -- After the same reply they stand beside each other;
-    pub beside-after : Beside m n (theRegister .after words i step) (theJudge .after ledger i step)
+    pub beside-after : Beside m n (wordsBy theRegister words i step) (wordsBy theJudge ledger i step)
     beside-after = record {
       asks = _;
       history = _;
       run = stepped asked (beside .run) promise;
-      says = subst (λ said. Says m n (theJudge .after ledger i step) (noteReply (beside .history) i (kindOf (step .code)) (step .value) said)) alike
+      says = subst (λ said. Says m n (wordsBy theJudge ledger i step) (noteReply (beside .history) i (plainSheet (step .code)) (step .value) said)) alike
           (says-after (beside .says) i (step .code) (step .value));
     }
       where
@@ -87,17 +81,17 @@ module _ {m n : ℕ} {words ledger : List ℕ} (beside : Beside m n words ledger
         asked = record { handler = i; code = step .code; value = step .value }
 
     -- the judge has one commit more where the reply reports one,
-    counts-after : commitsNoted (theJudge .after ledger i step) ≡ counted (commitsNoted ledger) reply
+    counts-after : commitsNoted (wordsBy theJudge ledger i step) ≡ counted (commitsNoted ledger) reply
     counts-after = judge-counts (beside .says .ledger) i (step .code) (step .value) ∙ ap (counted (commitsNoted ledger)) alike
 
     -- and then room for one less,
-    pub room-committed : (room : ℕ) → reportsCommit reply ≡ true → Room (suc room) ledger → Room room (theJudge .after ledger i step)
+    pub room-committed : (room : ℕ) → reportsCommit reply ≡ true → Room (suc room) ledger → Room room (wordsBy theJudge ledger i step)
     room-committed room reports has =
-        let one-more : commitsNoted (theJudge .after ledger i step) ≡ suc (commitsNoted ledger) = counts-after ∙ rw reports in
+        let one-more : commitsNoted (wordsBy theJudge ledger i step) ≡ suc (commitsNoted ledger) = counts-after ∙ rw reports in
         omega (arith, has, one-more)
 
     -- and else for as many.
-    pub room-kept : (room : ℕ) → reportsCommit reply ≡ false → Room room ledger → Room room (theJudge .after ledger i step)
+    pub room-kept : (room : ℕ) → reportsCommit reply ≡ false → Room room ledger → Room room (wordsBy theJudge ledger i step)
     room-kept room reports has =
-        let as-many : commitsNoted (theJudge .after ledger i step) ≡ commitsNoted ledger = counts-after ∙ rw reports in
+        let as-many : commitsNoted (wordsBy theJudge ledger i step) ≡ commitsNoted ledger = counts-after ∙ rw reports in
         omega (arith, has, as-many)

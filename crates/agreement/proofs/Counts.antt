@@ -1,26 +1,14 @@
--- What the rules say is never 33; and after each reply of the judge there is one commit more where it reports one, and else there are
--- as many.
+-- After each reply of the judge there is one commit more where it reports one, and else there are as many.
 use Prim.Native.Nat.{ℕ, suc}
-use mathlib.Core.Path.{_≡_, refl, sym, ap, _∙_, subst}
-use mathlib.Core.Bool.{false}
+use mathlib.Core.Path.{_≡_, refl, sym, ap, _∙_}
 use mathlib.Core.List.{List}
-use mathlib.Core.Logic.{inl, inr}
 use lib.ListN.{length}
-use lib.Dec.{eqb}
-use borrow.Author.Tests.{ne-eqb}
-use Rattle.rules.specs.Tables.{if_then_else_}
-use Rattle.rules.specs.Codes.{Step, begin, try, read, write, known, kindOf}
-use Rattle.rules.specs.Replies.{Outcome, ok, value, committed, aborted, Refusal, tooManyCommits, refusalNumber, Reply}
-use Rattle.rules.specs.Register.{Setting}
-use Rattle.rules.specs.Checks.{Asked}
-use Rattle.rules.specs.Given.{Given}
-use Rattle.rules.specs.History.{History, note, noteOk, noteValue, noteCommit, noteAbort, doing, ended, noteReply}
-use Rattle.rules.specs.Judge.{askedByHistory, judgement}
-use Rattle.rules.proofs.Given.{Verdict, verdict}
-use Rattle.rules.proofs.Judged.{judged-refused, judged-free}
-use Rattle.rules.proofs.Alike.{length-same}
-use Rattle.rules.proofs.Numbers.{refusals-apart}
-use Rattle.rules.proofs.ThirdDemand.{note-refused}
+use Rattle.rules.specs.steps.Tables.{if_then_else_}
+use Rattle.rules.specs.steps.Codes.{Step, begin, try, read, write, known, plainSheet}
+use Rattle.rules.specs.steps.Replies.{Outcome, ok, value, committed, aborted, Reply}
+use Rattle.rules.specs.history.History.{History, note, noteOk, noteValue, noteCommit, noteAbort, doing, ended, noteReply}
+use Rattle.rules.proofs.history.Alike.{length-same}
+use Rattle.rules.proofs.demand.ThirdDemand.{note-refused}
 use Rattle.layout.specs.Places.{cellsOf}
 use Rattle.ledger.specs.Entries.{Ledger, commitsNoted}
 use Rattle.ledger.specs.Histories.{historyIn}
@@ -28,24 +16,6 @@ use Rattle.ledger.specs.Noting.{noteWords}
 use Rattle.ledger.specs.Promises.{isCommit, reportsCommit, judgedReply}
 use Rattle.ledger.proofs.Commits.{commits-count}
 use Rattle.ledger.proofs.Steps.{reply-cases, reply-noted}
-use Rattle.judging.specs.Stopping.{saysTooMany}
-
--- ── 33 is the judge's alone ───────────────────────────────────────────
-
--- The rules give no step 33,
-given-other : (a : Asked) (refusal : Refusal) → Given refusal a → eqb (refusalNumber refusal) 33 ≡ false
-given-other a refusal given =
-    ne-eqb (refusalNumber refusal) 33 (λ same. subst (λ other. Given other a) (refusals-apart refusal tooManyCommits same) given)
-
--- so what the history tells is never 33.
-pub told-other : (S : Setting ℕ) (n : ℕ) (h : History ℕ) (i code : ℕ) → saysTooMany (judgement S n h i code) ≡ false
-told-other S n h i code = ways (verdict (askedByHistory S n h i code))
-  where
-    ways : Verdict (askedByHistory S n h i code) → saysTooMany (judgement S n h i code) ≡ false
-    ways (inl (refusal, given)) = rw (judged-refused S n h i code refusal given) (given-other _ refusal given)
-    ways (inr (s, free)) = rw (judged-free S n h i code s free)
-
--- ── One commit more, or as many ───────────────────────────────────────
 
 -- One commit more, where the reply reports one.
 abbrev pub counted : ℕ → Reply ℕ → ℕ
@@ -73,16 +43,16 @@ commits-noted words = commits-count (cellsOf words) words (commitsNoted words)
 
 module _ {words : List ℕ} (ledger : Ledger words) (i code v : ℕ) where
   -- The history with the judge's reply noted has one commit more where the reply reports one,
-  reply-counts : length (noteReply (historyIn words) i (kindOf code) v (judgedReply words i code) .commits)
+  reply-counts : length (noteReply (historyIn words) i (plainSheet code) v (judgedReply words i code) .commits)
       ≡ counted (length (historyIn words .commits)) (judgedReply words i code)
   unfolding noteReply
   reply-counts = reply-cases ledger i code
-      (λ reply. length (noteReply (historyIn words) i (kindOf code) v reply .commits) ≡ counted (length (historyIn words .commits)) reply)
-      (λ refusal. ap (λ h. length (h .commits)) (note-refused (historyIn words) i (kindOf code) v refusal))
-      (λ s free room. rw (free .placed .heard .known) (note-counts (historyIn words) i s v _))
+      (λ reply. length (noteReply (historyIn words) i (plainSheet code) v reply .commits) ≡ counted (length (historyIn words .commits)) reply)
+      (λ refusal. ap (λ h. length (h .commits)) (note-refused (historyIn words) i (plainSheet code) v refusal))
+      (λ s free room. rw (free .fits .heard .known) (note-counts (historyIn words) i s v _))
 
   -- and so has the judge.
-  pub judge-counts : commitsNoted (noteWords words i (kindOf code) v (judgedReply words i code))
+  pub judge-counts : commitsNoted (noteWords words i (plainSheet code) v (judgedReply words i code))
       ≡ counted (commitsNoted words) (judgedReply words i code)
   judge-counts =
       sym (commits-noted _) ∙ sym (length-same (reply-noted ledger i code v .commits)) ∙ reply-counts

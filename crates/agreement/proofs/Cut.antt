@@ -7,11 +7,11 @@ use mathlib.Core.Bool.{true, false}
 use mathlib.Core.List.{List, [], _∷_}
 use lib.Dec.{ltb, leb·suc-suc}
 use borrow.Author.Tests.{lt-ltb, le-ltb}
-use Rattle.rules.specs.Tables.{isFound}
+use Rattle.rules.specs.steps.Tables.{isFound}
 use Rattle.ledger.specs.Promises.{reportsCommit}
-use Rattle.schedule.specs.Runs.{Line}
-use Rattle.agreement.specs.Agreement.{tooMany, cutAfter, commitsAmong, untilStop, everStops}
-use Rattle.judging.specs.Stopping.{stops}
+use Rattle.runs.specs.Lines.{Line}
+use Rattle.runs.specs.Stopping.{stops, untilStop, everStops}
+use Rattle.agreement.specs.Agreement.{tooMany, cutAfter, commitsAmong}
 
 -- The judge's lines and the runner's, with room for so many commits.
 pub data Cut : ℕ → List Line → List Line → Type 0 where

@@ -6,18 +6,18 @@ use mathlib.Core.Bool.{false}
 use mathlib.Core.List.{List, []}
 use mathlib.Core.Option.{some}
 use lib.ListN.{length}
-use Rattle.rules.specs.Replies.{badFile}
+use Rattle.rules.specs.steps.Replies.{badFile}
 use Rattle.schedule.specs.Sound.{orderIn, isSoundFile}
-use Rattle.schedule.specs.Judging.{fileRefusal, FileGiven, unsound}
+use Rattle.schedule.specs.Admitting.{fileRefusal, FileGiven, unsound}
 use Rattle.schedule.specs.Taking.{Cursors, atStart, nextOf, cursorsAfter}
-use Rattle.schedule.specs.Lines.{Player, WordRun, lineFor, wordsFor, placesFrom}
 use Rattle.schedule.proofs.Sounds.{not-sound-file}
-use Rattle.schedule.proofs.Judges.{file-exactly}
-use Rattle.judging.specs.Player.{theJudge}
+use Rattle.schedule.proofs.Admits.{file-exactly}
+use Rattle.runs.specs.Players.{Player, theJudge}
+use Rattle.runs.specs.ByPlaces.{Stretch, lineFor, wordsFor, placesFrom}
 use Rattle.agreement.specs.Agreement.{judgedFrom}
 
 -- A run that shows nothing and leaves the words.
-abbrev pub nothing : List ℕ → WordRun
+abbrev pub nothing : List ℕ → Stretch
 nothing words = record { lines = []; words = words }
 
 -- No place of a file that is not sound is played.

@@ -2,22 +2,23 @@
 -- after. If there is none, the judge shows the same cells at the end.
 use Prim.Native.Nat.{ℕ, zero, suc, _<_}
 use mathlib.Core.Path.{_≡_}
-use mathlib.Core.Bool.{Bool, false, _||_}
+use mathlib.Core.Bool.{false}
 use mathlib.Core.List.{List, [], _∷_}
 use mathlib.Core.Option.{some}
 use lib.ListN.{length}
 use lib.Dec.{ltb}
-use Rattle.rules.specs.Tables.{if_then_else_}
-use Rattle.rules.specs.Replies.{tooManyCommits, Reply, ready}
+use Rattle.rules.specs.steps.Tables.{if_then_else_}
+use Rattle.rules.specs.steps.Replies.{tooManyCommits, Reply, ready}
+use Rattle.replies.specs.Ends.{cellLine}
 use Rattle.ledger.specs.Promises.{reportsCommit, LedgerPromise}
 use Rattle.schedule.specs.Sound.{orderIn}
 use Rattle.schedule.specs.Taking.{atStart}
-use Rattle.schedule.specs.Runs.{Line, Run, ran, runOf}
-use Rattle.schedule.specs.Lines.{placesFrom, WordRun}
-use Rattle.schedule.specs.Shown.{cellLine}
-use Rattle.judging.specs.Player.{theJudge}
-use Rattle.judging.specs.Stopping.{stops}
 use Rattle.judge.specs.Ending.{judgedEnd}
+use Rattle.runs.specs.Lines.{Line}
+use Rattle.runs.specs.ByRules.{Run, ran, runOf}
+use Rattle.runs.specs.Players.{theJudge}
+use Rattle.runs.specs.ByPlaces.{placesFrom, Stretch}
+use Rattle.runs.specs.Stopping.{untilStop, everStops}
 
 -- ── The runner's lines, cut ───────────────────────────────────────────
 
@@ -37,26 +38,14 @@ unfoldable pub commitsAmong : List Line → ℕ
 commitsAmong [] = 0
 commitsAmong (line ∷ lines) = if reportsCommit (line .reply) then (suc (commitsAmong lines)) else (commitsAmong lines)
 
--- ── The judge's lines ─────────────────────────────────────────────────
-
--- The lines up to the one at which the judge stops.
-unfoldable pub untilStop : List Line → List Line
-untilStop [] = []
-untilStop (line ∷ lines) = if stops line then (line ∷ []) else (line ∷ untilStop lines)
-
--- The judge stops at some line.
-unfoldable pub everStops : List Line → Bool
-everStops [] = false
-everStops (line ∷ lines) = stops line || everStops lines
-
 -- ── The agreement ─────────────────────────────────────────────────────
 
 -- What the judge makes of a file on words of its own: its places one after another.
-abbrev pub judgedFrom : List ℕ → List ℕ → WordRun
+abbrev pub judgedFrom : List ℕ → List ℕ → Stretch
 judgedFrom file words = placesFrom theJudge file (length (orderIn file)) atStart 0 words
 
 -- A judged run and the runner's run of m cells:
-pub record Agree (m : ℕ) (judged : WordRun) (run : Run) : Type 0 where
+pub record Agree (m : ℕ) (judged : Stretch) (run : Run) : Type 0 where
   -- the judge's lines, up to the one at which it stops, are the runner's, cut at a 65th commit;
   pub lines : untilStop (judged .lines) ≡ cutAfter 64 (run .lines)
   -- it stops exactly when the runner reports more than 64 commits;

@@ -6,35 +6,52 @@ ghost use mathlib.Core.Bool.{_&&_, _||_};
 ghost use Prim.Native.Nat.{ℕ, _≤_, _<_};
 ghost use lib.ListN.{length};
 ghost use lib.Dec.{ltb};
-ghost use Rattle.rules.specs.Tables.{someBelow};
-ghost use Rattle.rules.specs.History.{hasRead, hasWritten, writer, everyCommit};
-ghost use Rattle.rules.specs.Past as Past;
-ghost use Rattle.rules.specs.Replay.{replay};
-ghost use Rattle.rules.specs.Judge.{versionCount, stale};
+ghost use Rattle.rules.specs.steps.Tables.{someBelow};
+ghost use Rattle.rules.specs.history.History.{hasRead, hasWritten, writer, everyCommit};
+ghost use Rattle.rules.specs.history.Past as Past;
+ghost use Rattle.rules.specs.history.Replay.{replay};
+ghost use Rattle.rules.specs.demand.Judge.{versionCount, stale};
+ghost use Rattle.limits.specs.Limits.{mostCells, ledgerRows};
 ghost use Rattle.layout.specs.View.{wordSetting};
 ghost use Rattle.ledger.specs.Entries.{ledgerLong, mostCommits, commitRow, entryIn};
 ghost use Rattle.ledger.specs.Histories.{deedsOf, commitsIn};
 ghost use Rattle.past.specs.Marks.{marked};
 
+// A version of a cell: the place of the commit that wrote it, 0 for the opening's, and its number among the cell's versions.
+pub struct Version {
+    pub writer: usize,
+    pub number: u32,
+}
+
 // Whether a row's transaction wrote the cell c.
 fn wrote(words: &[u32], row: usize, c: usize) -> bool
-    requires { ⌜ (ledgerLong ≤ length (now words)) × (row < 81) × (c < 32) ⌝ }
+    requires { ⌜ (ledgerLong ≤ length (now words)) × (row < ledgerRows) × (c < mostCells) ⌝ }
     ensures { λ r. ⌜ r ≡ entryIn (now (words .entry)) row .written c ⌝ }
 {
-    words::has(words[row * 66 + 1], c)
+    let at = places::written_at(row);
+    words::has(words[at], c)
+}
+
+// Whether the commit at a place wrote the cell c.
+fn commit_wrote(words: &[u32], place: usize, c: usize) -> bool
+    requires { ⌜ (ledgerLong ≤ length (now words)) × (place ≤ mostCommits) × (c < mostCells) ⌝ }
+    ensures { λ r. ⌜ r ≡ entryIn (now (words .entry)) (commitRow place) .written c ⌝ }
+{
+    wrote(words, places::commit_row(place), c)
 }
 
 // What a row notes of the source that its transaction read the cell c from: 0 where there is none, and else 1 more than its place.
 fn source_noted(words: &[u32], row: usize, c: usize) -> usize
-    requires { ⌜ (ledgerLong ≤ length (now words)) × (row < 81) × (c < 32) ⌝ }
+    requires { ⌜ (ledgerLong ≤ length (now words)) × (row < ledgerRows) × (c < mostCells) ⌝ }
     ensures { λ r. ⌜ r ≡ entryIn (now (words .entry)) row .sources c ⌝ }
 {
-    words[row * 66 + (2 + c)] as usize
+    let at = places::source_at(row, c);
+    words[at] as usize
 }
 
 // Whether a row's transaction has read or written the cell x.
 pub fn has_copy(words: &[u32], row: usize, x: usize) -> bool
-    requires { ⌜ (ledgerLong ≤ length (now words)) × (row < 81) × (x < 32) ⌝ }
+    requires { ⌜ (ledgerLong ≤ length (now words)) × (row < ledgerRows) × (x < mostCells) ⌝ }
     ensures { λ r. ⌜ ((m : ℕ) → x < m
         → r ≡ (hasRead (deedsOf (entryIn (now (words .entry)) row) m) x || hasWritten (deedsOf (entryIn (now (words .entry)) row) m) x)) ⌝ }
 {
@@ -45,57 +62,56 @@ pub fn has_copy(words: &[u32], row: usize, x: usize) -> bool
     }
 }
 
+// The present version of the cell x: its writer, and its number, which is how many versions the commits wrote.
+pub fn present_version(words: &[u32], x: usize, count: usize) -> Version
+    requires { ⌜ (ledgerLong ≤ length (now words)) × (x < mostCells) × (count ≤ mostCommits) ⌝ }
+    ensures version { λ r. ⌜ ((m : ℕ) → x < m → (r .writer ≡ writer (commitsIn m (now (words .entry)) count) x)
+        × (r .number ≡ versionCount (commitsIn m (now (words .entry)) count) x)) ⌝ }
+    ensures within { λ r. ⌜ r .writer ≤ count ⌝ }
+{
+    let mut writer = 0;
+    let mut number = 0u32;
+    for earlier in 0..count {
+        let place = earlier + 1;
+        if commit_wrote(words, place, x) {
+            writer = place;
+            number += 1;
+        }
+    }
+    Version { writer, number }
+}
+
 // The place of the commit that wrote the cell's present version; 0 for the opening's.
 pub fn writer_of(words: &[u32], x: usize, count: usize) -> usize
-    requires { ⌜ (ledgerLong ≤ length (now words)) × (x < 32) × (count ≤ mostCommits) ⌝ }
+    requires { ⌜ (ledgerLong ≤ length (now words)) × (x < mostCells) × (count ≤ mostCommits) ⌝ }
     ensures writer { λ r. ⌜ ((m : ℕ) → x < m → r ≡ writer (commitsIn m (now (words .entry)) count) x) ⌝ }
     ensures within { λ r. ⌜ r ≤ count ⌝ }
 {
-    let mut writer = 0;
-    for earlier in 0..count {
-        let place = earlier + 1;
-        if wrote(words, 16 + place, x) {
-            writer = place;
-        }
-    }
-    writer
+    let version = present_version(words, x, count);
+    version.writer
 }
 
 // The value of the cell's present version.
 pub fn present_value(words: &[u32], x: usize, count: usize) -> u32
-    requires { ⌜ (ledgerLong ≤ length (now words)) × (x < 32) × (count ≤ mostCommits) ⌝ }
+    requires { ⌜ (ledgerLong ≤ length (now words)) × (x < mostCells) × (count ≤ mostCommits) ⌝ }
     ensures { λ r. ⌜ ((m : ℕ) → x < m → r ≡ replay (wordSetting m) (commitsIn m (now (words .entry)) count) everyCommit x) ⌝ }
 {
     let place = writer_of(words, x, count);
     if place == 0 {
         return 0;
     }
-    words[(16 + place) * 66 + (34 + x)]
-}
-
-// How many versions of the cell y the commits wrote.
-pub fn versions_of(words: &[u32], y: usize, count: usize) -> u32
-    requires { ⌜ (ledgerLong ≤ length (now words)) × (y < 32) × (count ≤ mostCommits) ⌝ }
-    ensures { λ r. ⌜ ((m : ℕ) → y < m → r ≡ versionCount (commitsIn m (now (words .entry)) count) y) ⌝ }
-{
-    let mut versions = 0u32;
-    for earlier in 0..count {
-        let place = earlier + 1;
-        if wrote(words, 16 + place, y) {
-            versions += 1;
-        }
-    }
-    versions
+    let at = places::copy_at(places::commit_row(place), x);
+    words[at]
 }
 
 // Whether the commit at a place is marked, and wrote a later version of the cell y than the source did.
 fn is_later(words: &[u32], y: usize, source: usize, place: usize, marks: u64) -> bool
-    requires { ⌜ (ledgerLong ≤ length (now words)) × (y < 32) × (1 ≤ place) × (place ≤ mostCommits) ⌝ }
+    requires { ⌜ (ledgerLong ≤ length (now words)) × (y < mostCells) × (1 ≤ place) × (place ≤ mostCommits) ⌝ }
     ensures { λ r. ⌜ r ≡ (marked marks place && (entryIn (now (words .entry)) (commitRow place) .written y && ltb source place)) ⌝ }
 {
     if source < place {
         if past::is_marked(marks, place) {
-            return wrote(words, 16 + place, y);
+            return commit_wrote(words, place, y);
         }
     }
     false
@@ -103,7 +119,7 @@ fn is_later(words: &[u32], y: usize, source: usize, place: usize, marks: u64) ->
 
 // Whether a marked commit wrote a later version of the cell y than the source did.
 fn has_later(words: &[u32], y: usize, source: usize, count: usize, marks: u64) -> bool
-    requires { ⌜ (ledgerLong ≤ length (now words)) × (y < 32) × (count ≤ mostCommits) ⌝ }
+    requires { ⌜ (ledgerLong ≤ length (now words)) × (y < mostCells) × (count ≤ mostCommits) ⌝ }
     ensures { λ r. ⌜ ((m : ℕ) → y < m → r ≡ Past.later (commitsIn m (now (words .entry)) count) (marked marks) y source) ⌝ }
 {
     for earlier in 0..count {
@@ -116,7 +132,7 @@ fn has_later(words: &[u32], y: usize, source: usize, count: usize, marks: u64) -
 
 // Whether a row's transaction read the cell y, and a marked commit wrote a later version of it than the one read.
 fn is_outdated(words: &[u32], row: usize, y: usize, count: usize, marks: u64) -> bool
-    requires { ⌜ (ledgerLong ≤ length (now words)) × (row < 81) × (y < 32) × (count ≤ mostCommits) ⌝ }
+    requires { ⌜ (ledgerLong ≤ length (now words)) × (row < ledgerRows) × (y < mostCells) × (count ≤ mostCommits) ⌝ }
     ensures { λ r. ⌜ ((m : ℕ) → y < m
         → r ≡ Past.outdated (commitsIn m (now (words .entry)) count) (marked marks) (deedsOf (entryIn (now (words .entry)) row) m) y) ⌝ }
 {
@@ -129,7 +145,7 @@ fn is_outdated(words: &[u32], row: usize, y: usize, count: usize, marks: u64) ->
 
 // Whether the commit at a place, or a commit in its causal past, wrote a later version than one that a row's transaction read.
 pub fn tears(words: &[u32], m: usize, row: usize, count: usize, place: usize) -> bool
-    requires { ⌜ (ledgerLong ≤ length (now words)) × (m ≤ 32) × (row < 81) × (count ≤ mostCommits) × (place ≤ count) ⌝ }
+    requires { ⌜ (ledgerLong ≤ length (now words)) × (m ≤ mostCells) × (row < ledgerRows) × (count ≤ mostCommits) × (place ≤ count) ⌝ }
     ensures { λ r. ⌜ r ≡ Past.tears m (commitsIn m (now (words .entry)) count) (deedsOf (entryIn (now (words .entry)) row) m) place ⌝ }
 {
     let marks = past::past_of_version(words, m, place, 0);
@@ -143,7 +159,7 @@ pub fn tears(words: &[u32], m: usize, row: usize, count: usize, place: usize) ->
 
 // Whether a row's transaction read the cell y in another version than the present one.
 fn is_overtaken(words: &[u32], row: usize, y: usize, count: usize) -> bool
-    requires { ⌜ (ledgerLong ≤ length (now words)) × (row < 81) × (y < 32) × (count ≤ mostCommits) ⌝ }
+    requires { ⌜ (ledgerLong ≤ length (now words)) × (row < ledgerRows) × (y < mostCells) × (count ≤ mostCommits) ⌝ }
     ensures { λ r. ⌜ ((m : ℕ) → y < m
         → r ≡ stale (commitsIn m (now (words .entry)) count) (deedsOf (entryIn (now (words .entry)) row) m) y) ⌝ }
 {
@@ -156,7 +172,7 @@ fn is_overtaken(words: &[u32], row: usize, y: usize, count: usize) -> bool
 
 // Whether a version that a row's transaction read is not the present one.
 pub fn is_stale(words: &[u32], m: usize, row: usize, count: usize) -> bool
-    requires { ⌜ (ledgerLong ≤ length (now words)) × (m ≤ 32) × (row < 81) × (count ≤ mostCommits) ⌝ }
+    requires { ⌜ (ledgerLong ≤ length (now words)) × (m ≤ mostCells) × (row < ledgerRows) × (count ≤ mostCommits) ⌝ }
     ensures { λ r. ⌜ r ≡ someBelow m (stale (commitsIn m (now (words .entry)) count) (deedsOf (entryIn (now (words .entry)) row) m)) ⌝ }
 {
     for y in 0..m {

@@ -3,11 +3,11 @@ use Prim.Native.Nat.{ℕ, _+_, _*_, _<_}
 use mathlib.Core.Path.{_≡_, sym, ap, _∙_}
 use mathlib.Core.Bool.{Bool, true, false}
 use mathlib.Core.List.{List}
-use Rattle.rules.specs.Replies as Rules
-use Rattle.rules.specs.Register.{Cell, Handler, idle}
-use Rattle.rules.specs.Figure.{joined, taken, shown, isTorn}
-use Rattle.rules.proofs.Tables.{put-here, put-beyond}
-use Rattle.rules.proofs.Confined.{ConfinedHandler}
+use Rattle.rules.specs.steps.Replies as Rules
+use Rattle.rules.specs.steps.Register.{Cell, Handler, idle}
+use Rattle.rules.specs.steps.Figure.{joined, taken, shown, isTorn}
+use Rattle.rules.proofs.steps.Tables.{put-here, put-beyond}
+use Rattle.rules.proofs.steps.Confined.{ConfinedHandler}
 use Rattle.layout.specs.Places.{phaseIn, readSetIn}
 use Rattle.layout.specs.View.{wordSetting, viewHandler, pourHandler}
 use Rattle.layout.proofs.Bits.{withBit}

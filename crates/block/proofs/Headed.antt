@@ -6,9 +6,8 @@ use mathlib.Core.Bool.{Bool, true, false}
 use mathlib.Core.List.{List}
 use native.Mathlib.Omega.{arith}
 use lib.ListN.{length, getD, set}
-use Rattle.rules.specs.Register.{Handler, noCells, zeros, idle}
-use Rattle.rules.specs.Figure.{begun}
-use Rattle.layout.specs.Bits.{bit}
+use Rattle.rules.specs.steps.Register.{Handler, noCells, zeros, idle}
+use Rattle.rules.specs.steps.Figure.{begun}
 use Rattle.layout.specs.Places.{handlerLong, phaseIn, readSetIn, writtenSetIn, handlerNumberIn, transactionNumberIn, copyIn}
 use Rattle.layout.specs.View.{wordSetting, viewHandler, pourHandler}
 use Rattle.layout.proofs.Bits.{mask-none}
@@ -64,9 +63,9 @@ headed-still head behind same = record {
 }
 
 -- A handler with empty sets and cleared copies.
-abbrev emptied : Bool → (ℕ → ℕ) → (ℕ → ℕ) → Handler ℕ
-emptied opened numbers transaction = record {
-  opened = opened;
+abbrev emptied : ℕ → (ℕ → ℕ) → (ℕ → ℕ) → Handler ℕ
+emptied phase numbers transaction = record {
+  phase = phase;
   readSet = noCells;
   writtenSet = noCells;
   numbers = numbers;
@@ -75,10 +74,10 @@ emptied opened numbers transaction = record {
 }
 
 -- A block that begins so, with the transaction's numbers and cleared copies behind, is that handler's.
-headed-is : {m : ℕ} {numbers transaction : ℕ → ℕ} {block : List ℕ} (opened : Bool) → Headed m (bit opened) numbers block
+headed-is : {m : ℕ} {numbers transaction : ℕ → ℕ} {block : List ℕ} (phase : ℕ) → Headed m phase numbers block
     → ((y : ℕ) → y < m → transactionNumberIn m block y ≡ transaction y) → ((y : ℕ) → y < m → copyIn m block y ≡ 0)
-    → block ≡ pourHandler m (emptied opened numbers transaction)
-headed-is {m} opened head held cleared = handler-is m _ _ (record {
+    → block ≡ pourHandler m (emptied phase numbers transaction)
+headed-is {m} phase head held cleared = handler-is m _ _ (record {
   size = head .size;
   phase = head .phase;
   readSet = head .readSet ∙ sym (mask-none m);
@@ -93,7 +92,7 @@ module _ {m : ℕ} {block : List ℕ} where
   pub rests : {numbers : ℕ → ℕ} {after : List ℕ} → Headed m 0 numbers block → Changed (3 + m) (2 * m) zeros block after
       → after ≡ pourHandler m (idle (wordSetting m) numbers)
   unfolding idle
-  rests {after = after} head changed = headed-is false (headed-still head (omega arith) (changed .untouched))
+  rests {after = after} head changed = headed-is 0 (headed-still head (omega arith) (changed .untouched))
       (λ y h. changed .inside y (omega arith))
       (λ y h. ap (λ k. getD after k 0) (copies y) ∙ changed .inside (m + y) (omega arith))
     where
@@ -105,7 +104,7 @@ module _ {m : ℕ} {block : List ℕ} where
       → Changed (3 + m) m (handlerNumberIn block) block copied → Changed (3 + 2 * m) m zeros copied after
       → after ≡ pourHandler m (begun (wordSetting m) h)
   unfolding begun
-  begins h head copies clears = headed-is true
+  begins h head copies clears = headed-is 1
       (headed-still (headed-still head (omega arith) (copies .untouched)) (omega arith) (clears .untouched))
       (λ y l. clears .untouched .below (3 + m + y) (omega arith) ∙ copies .inside y l ∙ head .numbers y l)
       (clears .inside)

@@ -6,9 +6,9 @@ use mathlib.Core.Bool.{Bool}
 use mathlib.Core.List.{List}
 use native.Mathlib.Omega.{arith}
 use lib.ListN.{getD}
-use Rattle.rules.specs.Tables.{if_then_else_}
-use Rattle.rules.specs.Register.{Cell, Handler}
-use Rattle.rules.specs.Figure.{joined, taken, wrote}
+use Rattle.rules.specs.steps.Tables.{if_then_else_}
+use Rattle.rules.specs.steps.Register.{Cell, Handler}
+use Rattle.rules.specs.steps.Figure.{joined, taken, wrote}
 use Rattle.layout.specs.Bits.{hasBit}
 use Rattle.layout.specs.Places.{phaseIn, readSetIn, writtenSetIn}
 use Rattle.layout.proofs.Bits.{withBit, has-mask}

@@ -5,9 +5,9 @@ use mathlib.Core.Path.{_≡_}
 use mathlib.Core.Bool.{Bool, not, _&&_}
 use mathlib.Core.List.{List}
 use lib.Dec.{eqb, ltb}
-use Rattle.rules.specs.Tables.{someBelow}
-use Rattle.rules.specs.Figure.{isTorn}
-use Rattle.rules.proofs.Searches.{some-same}
+use Rattle.rules.specs.steps.Tables.{someBelow}
+use Rattle.rules.specs.steps.Figure.{isTorn}
+use Rattle.rules.proofs.steps.Searches.{some-same}
 use Rattle.layout.specs.Bits.{hasBit}
 use Rattle.layout.specs.Places.{readSetIn, writtenSetIn, transactionNumberIn}
 use Rattle.layout.specs.View.{wordSetting, viewHandler}

@@ -1,13 +1,13 @@
 -- One word of a block stored: every word afterwards, the table that its row is, and the set that it is with a cell more.
 use Prim.Native.Nat.{ℕ, _+_, _<_}
-use mathlib.Core.Path.{_≡_, sym, _∙_}
+use mathlib.Core.Path.{_≡_, refl, sym, ap, _∙_}
 use mathlib.Core.Bool.{Bool, true}
 use mathlib.Core.List.{List}
 use native.Mathlib.Omega.{arith}
 use lib.ListN.{length, getD, set, length-set}
 use lib.Seq.{getD-set-same, getD-set-other}
-use Rattle.rules.specs.Tables.{put}
-use Rattle.rules.proofs.Tables.{put-each}
+use Rattle.rules.specs.steps.Tables.{put}
+use Rattle.rules.proofs.steps.Tables.{put-each}
 use Rattle.layout.specs.Bits.{hasBit, mask}
 use Rattle.layout.proofs.Bits.{withBit, mask-small, mask-ext, mask-with, has-mask}
 
@@ -17,13 +17,17 @@ pub record Stored (place v : ℕ) (block after : List ℕ) : Type 0 where
   pub here : getD after place 0 ≡ v
   pub other : (k : ℕ) → (k ≡ place → ⊥) → getD after k 0 ≡ getD block k 0
 
--- A store inside the block changes one word.
-pub stored : (place v : ℕ) (block : List ℕ) → place < length block → Stored place v block (set block place v)
-stored place v block inside = record {
-  size = length-set block place v;
-  here = getD-set-same block place v 0 inside;
-  other = λ k ne. getD-set-other block place k v 0 ne;
+-- A store inside the block, at a place that was computed, changes one word.
+pub stored-at : {place : ℕ} (at v : ℕ) (block : List ℕ) → at ≡ place → at < length block → Stored place v block (set block at v)
+stored-at at v block same inside = record {
+  size = length-set block at v;
+  here = ap (λ k. getD (set block at v) k 0) (sym same) ∙ getD-set-same block at v 0 inside;
+  other = λ k ne. getD-set-other block at k v 0 (λ e. ne (e ∙ same));
 }
+
+-- A store at a place that is known changes one word.
+pub stored : (place v : ℕ) (block : List ℕ) → place < length block → Stored place v block (set block place v)
+stored place v block inside = stored-at place v block refl inside
 
 -- A row that was a table's is, with one word stored, that table's with the entry put in.
 pub stored-row : {m v : ℕ} {block after : List ℕ} (from x : ℕ) (table : ℕ → ℕ) → Stored (from + x) v block after

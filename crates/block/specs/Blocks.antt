@@ -1,3 +1,4 @@
+-- For internal contracts alone: what our own functions are called with and leave. Nothing here need be believed.
 -- What the functions over a handler's block require and do. A row of 32 words stands for a table of numbers; the tests of a try
 -- and of a first read are those of the rules, with the cells' own numbers given as such a table.
 use Prim.Native.Nat.{ℕ, _+_, _≤_, max}
@@ -6,10 +7,10 @@ use mathlib.Core.Bool.{Bool, not, _&&_}
 use mathlib.Core.List.{List}
 use lib.Dec.{eqb}
 use lib.ListN.{length, getD}
-use Rattle.rules.specs.Tables.{if_then_else_, someBelow}
-use Rattle.rules.specs.Replies.{Outcome, torn, aborted}
-use Rattle.rules.specs.Register.{Cell, Handler, idle}
-use Rattle.rules.specs.Figure.{joined, taken, shown, isTorn}
+use Rattle.rules.specs.steps.Tables.{if_then_else_, someBelow}
+use Rattle.rules.specs.steps.Replies.{Outcome, torn, aborted}
+use Rattle.rules.specs.steps.Register.{Cell, Handler, idle}
+use Rattle.rules.specs.steps.Figure.{joined, taken, shown, isTorn}
 use Rattle.layout.specs.Bits.{hasBit}
 use Rattle.layout.specs.Places.{handlerLong, phaseIn, readSetIn, transactionNumberIn}
 use Rattle.layout.specs.View.{wordSetting, pourHandler}

@@ -1,18 +1,18 @@
 -- K1 to K12: one claim over the one list of cases, which antt computes.
 use mathlib.Core.Path.{_≡_, refl}
 use mathlib.Core.List.{map}
-use Rattle.rules.specs.Tables.{put, orElse, lowest, someBelow}
-use Rattle.rules.specs.Codes.{kindOf}
-use Rattle.rules.specs.Register.{withHandler, idle, blank, fresh}
-use Rattle.rules.specs.Checks.{firstHit, stepChecks, inRange, openingChecks}
-use Rattle.rules.specs.Figure.{joined, taken, wrote, shown, stamped, stored, begun, isTorn, isOvertaken, isSpent}
-use Rattle.rules.specs.Figure.{aborting, committing, unlessAborted, readChecks, tryChecks, firstRead, reading, trying, step}
-use Rattle.rules.specs.Turn.{refusalOf, turned, turn}
-use Rattle.rules.specs.Cases.{cases}
+use Rattle.rules.specs.steps.Tables.{put, orElse, lowest, someBelow}
+use Rattle.rules.specs.steps.Codes.{plainSheet}
+use Rattle.rules.specs.steps.Register.{withHandler, idle, blank, fresh}
+use Rattle.rules.specs.steps.Checks.{firstHit, stepChecks, inRange, openingChecks}
+use Rattle.rules.specs.steps.Figure.{joined, taken, wrote, shown, stamped, stored, begun, isTorn, isOvertaken, isSpent}
+use Rattle.rules.specs.steps.Figure.{aborting, committing, unlessAborted, readChecks, tryChecks, firstRead, reading, trying, step}
+use Rattle.rules.specs.steps.Turn.{stepRefusal, turned, turn}
+use Rattle.rules.specs.demand.Cases.{cases}
 use Rattle.layout.specs.Bits.{hasBit, mask}
 use Rattle.layout.specs.Rows.{row, rows, below}
 use Rattle.layout.specs.View.{viewCell, viewHandler, view, pourCell, pourHandler, pour}
-use Rattle.layout.specs.WellFormed.{everyBelow, numbersFit, isGoodBlock, isRegister, isWellFormed}
+use Rattle.layout.specs.WellFormed.{everyBelow, numbersFit, isGoodBlock, isGoodBody, isWellFormed}
 use Rattle.promises.specs.Opening.{openingRefusal, openingReply, openingWords}
 use Rattle.promises.specs.Stepping.{turnOf, stepWords}
 use Rattle.cases.specs.Played.{openingNumbers, playLines, playFrom, made, joinRows, saidReplies, saidCounts, saidWords, said}
@@ -21,9 +21,9 @@ use Rattle.cases.specs.Played.{openingNumbers, playLines, playFrom, made
 pub all-cases : map made cases ≡ map said cases
 unfolding made said playFrom playLines openingNumbers saidReplies saidCounts saidWords joinRows cases
     openingRefusal openingReply openingWords turnOf stepWords
-    everyBelow numbersFit isGoodBlock isRegister isWellFormed viewCell viewHandler view pourCell pourHandler pour
-    hasBit mask row rows below put orElse lowest someBelow kindOf
+    everyBelow numbersFit isGoodBlock isGoodBody isWellFormed viewCell viewHandler view pourCell pourHandler pour
+    hasBit mask row rows below put orElse lowest someBelow plainSheet
     withHandler idle blank fresh firstHit stepChecks inRange openingChecks
     joined taken wrote shown stamped stored begun isTorn isOvertaken isSpent aborting committing
-    unlessAborted readChecks tryChecks firstRead reading trying step refusalOf turned turn
+    unlessAborted readChecks tryChecks firstRead reading trying step stepRefusal turned turn
 all-cases = refl

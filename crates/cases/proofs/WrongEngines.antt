@@ -5,18 +5,18 @@ use mathlib.Core.List.{List, [], _∷_}
 use native.Mathlib.Omega.{arith}
 use lib.Dec.{ltb}
 use lib.ListN.{getD}
-use Rattle.rules.specs.Tables.{if_then_else_, put, orElse, lowest, someBelow}
-use Rattle.rules.specs.Codes.{kindOf}
-use Rattle.rules.specs.Replies.{Reason, Outcome, ok, committed, aborted, Refusal, Report, Reply, reported, refused, outcomeNumbers, replyNumbers}
-use Rattle.rules.specs.Register.{Register, Handler, Cell, withHandler, idle}
-use Rattle.rules.specs.Checks.{firstHit, stepChecks, inRange}
-use Rattle.rules.specs.Figure.{begun, stamped, stored, isOvertaken, isSpent, aborting, committing, unlessAborted, tryChecks, trying, step}
-use Rattle.rules.specs.Turn.{refusalOf, turned, turn}
+use Rattle.rules.specs.steps.Tables.{if_then_else_, put, orElse, lowest, someBelow}
+use Rattle.rules.specs.steps.Codes.{plainSheet}
+use Rattle.rules.specs.steps.Replies.{Reason, Outcome, ok, committed, aborted, Refusal, Report, Reply, reported, refused, outcomeNumbers, replyNumbers}
+use Rattle.rules.specs.steps.Register.{Register, Handler, Cell, withHandler, idle}
+use Rattle.rules.specs.steps.Checks.{firstHit, stepChecks, inRange}
+use Rattle.rules.specs.steps.Figure.{begun, stamped, stored, isOvertaken, isSpent, aborting, committing, unlessAborted, tryChecks, trying, step}
+use Rattle.rules.specs.steps.Turn.{stepRefusal, turned, turn}
 use Rattle.layout.specs.Bits.{hasBit, mask}
 use Rattle.layout.specs.Rows.{row, rows, below}
 use Rattle.layout.specs.Places.{cellsOf, handlersOf}
 use Rattle.layout.specs.View.{wordSetting, holding, viewCell, viewHandler, view, pourCell, pourHandler, pour}
-use Rattle.layout.specs.WellFormed.{everyBelow, numbersFit, isGoodBlock, isRegister, isWellFormed}
+use Rattle.layout.specs.WellFormed.{everyBelow, numbersFit, isGoodBlock, isGoodBody, isWellFormed}
 use Rattle.promises.specs.Stepping.{turnOf, stepWords, StepPromise}
 
 -- An engine: what it replies to a step, and the words that it leaves.
@@ -45,9 +45,9 @@ record OneTransaction : Type 0 where
 
 computed : OneTransaction
 unfolding inPhase turnOf stepWords
-    everyBelow numbersFit isGoodBlock isRegister isWellFormed viewCell viewHandler view pourCell pourHandler pour
-    hasBit mask row rows below put orElse lowest someBelow kindOf withHandler idle firstHit stepChecks inRange
-    stamped stored begun isOvertaken isSpent aborting committing unlessAborted tryChecks trying step refusalOf turned turn
+    everyBelow numbersFit isGoodBlock isGoodBody isWellFormed viewCell viewHandler view pourCell pourHandler pour
+    hasBit mask row rows below put orElse lowest someBelow plainSheet withHandler idle firstHit stepChecks inRange
+    stamped stored begun isOvertaken isSpent aborting committing unlessAborted tryChecks trying step stepRefusal turned turn
 computed = record { begun = refl; phase = refl; tried = refl }
 
 module _ {e : Engine} (keeps : KeepsPromise e) where
@@ -115,9 +115,9 @@ record TwoCells : Type 0 where
 
 two-cells : TwoCells
 unfolding bothWritten onePass storedAtOnce turnOf stepWords
-    everyBelow numbersFit isGoodBlock isRegister isWellFormed viewCell viewHandler view pourCell pourHandler pour
-    hasBit mask row rows below put orElse lowest someBelow kindOf withHandler idle firstHit stepChecks inRange
-    stamped stored begun isOvertaken isSpent aborting committing unlessAborted tryChecks trying step refusalOf turned turn
+    everyBelow numbersFit isGoodBlock isGoodBody isWellFormed viewCell viewHandler view pourCell pourHandler pour
+    hasBit mask row rows below put orElse lowest someBelow plainSheet withHandler idle firstHit stepChecks inRange
+    stamped stored begun isOvertaken isSpent aborting committing unlessAborted tryChecks trying step stepRefusal turned turn
 two-cells = record { tried = refl; raised = refl; missed = refl }
 
 -- No engine that keeps the promise commits in one pass.

@@ -2,8 +2,8 @@
 use Prim.Native.Nat.{ℕ}
 use mathlib.Core.List.{List, [], _∷_, _++_, map}
 use lib.ListN.{replicate, take}
-use Rattle.rules.specs.Replies.{Opening, ready, refused, Numbers, refusalNumbers, replyNumbers}
-use Rattle.rules.specs.Cases.{Line, Start, opened, given, End, register, loose, Case}
+use Rattle.rules.specs.steps.Replies.{Opening, ready, refused, Numbers, refusalNumbers, replyNumbers}
+use Rattle.rules.specs.demand.Cases.{CaseStep, CaseStart, opened, given, CaseEnd, register, loose, Case}
 use Rattle.promises.specs.Opening.{openingRefusal, openingReply, openingWords}
 use Rattle.promises.specs.Stepping.{turnOf, stepWords}
 
@@ -18,7 +18,7 @@ openingNumbers ready = record { kind = 0; detail = 0 }
 openingNumbers (refused refusal) = refusalNumbers refusal
 
 -- The lines of a case, one after another.
-unfoldable pub playLines : List ℕ → List Line → Seen
+unfoldable pub playLines : List ℕ → List CaseStep → Seen
 playLines words [] = record { replies = []; words = words }
 playLines words (l ∷ lines) =
     let t = turnOf words (l .handler) (l .code) (l .value) in
@@ -26,7 +26,7 @@ playLines words (l ∷ lines) =
     record { replies = replyNumbers (t .reply) ∷ rest .replies; words = rest .words }
 
 -- A case from its start.
-unfoldable pub playFrom : Start → List Line → Seen
+unfoldable pub playFrom : CaseStart → List CaseStep → Seen
 playFrom (given words) lines = playLines words lines
 playFrom (opened m n long reply) lines =
     let words : List ℕ = replicate long 7 in
@@ -44,17 +44,17 @@ joinRows [] = []
 joinRows (row ∷ rows) = row ++ joinRows rows
 
 -- The replies that a case says, that of its opening first.
-unfoldable pub saidReplies : Start → List Line → List Numbers
+unfoldable pub saidReplies : CaseStart → List CaseStep → List Numbers
 saidReplies (given words) lines = map (λ l. l .reply) lines
 saidReplies (opened m n long reply) lines = reply ∷ map (λ l. l .reply) lines
 
 -- The words m and n that a case starts with.
-unfoldable pub saidCounts : Start → List ℕ
+unfoldable pub saidCounts : CaseStart → List ℕ
 saidCounts (given words) = take 2 words
 saidCounts (opened m n long reply) = m ∷ n ∷ []
 
 -- The words that a case says: m and n, the cells, the handlers, and the words beyond.
-unfoldable pub saidWords : Start → End → List ℕ
+unfoldable pub saidWords : CaseStart → CaseEnd → List ℕ
 saidWords start (loose words) = words
 saidWords start (register cells handlers beyond) = saidCounts start ++ (joinRows cells ++ (joinRows handlers ++ beyond))
 

@@ -3,7 +3,7 @@ use Prim.Native.Nat.{ℕ, _+_, _*_, _/_, _^_, _≤_, _<_}
 use mathlib.Core.Path.{_≡_, refl, sym, subst}
 use mathlib.Core.Logic.{_↔_, Iff·rfl, Iff·symm, Iff·trans}
 use native.Mathlib.Omega.{arith}
-use native.Mathlib.Nat.{div-lt-iff-lt-mul}
+use native.Mathlib.Nat.{div-lt-iff-lt-mul, div-le-self}
 use lib.Bits.{bitOr, or-add-and, and-le-l, and-le-r, or-shr}
 use lib.Pow.{pow-pos, shr-le}
 use borrow.Author.Count.{below-more}
@@ -93,10 +93,6 @@ module _ (each : ℕ) (Good : ℕ → Type 0) where
 -- The faults of a number: how far it lies above 65,535.
 pub number-faults : (word : ℕ) → word < 2 ^ 32 → Faults 65535 (word ≤ 65535) (word / 65536)
 number-faults word fits = omega arith
-
--- The faults of a phase: how far it lies above 1.
-pub phase-faults : (word : ℕ) → word < 2 ^ 32 → Faults 2147483647 (word ≤ 1) (word / 2)
-phase-faults word fits = omega arith
 
 -- The faults of a set of m cells: what its bits from m on say.
 pub set-faults : (m word : ℕ) → word < 2 ^ 32 → Faults 4294967295 (NoBitFrom m word) (word / 2 ^ m)

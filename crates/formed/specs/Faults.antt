@@ -1,3 +1,4 @@
+-- For internal contracts alone: what our own functions are called with and leave. Nothing here need be believed.
 -- Faults that are gathered: a number that is small enough to go on adding, and 0 exactly where all is well.
 use Prim.Native.Nat.{ℕ, _+_, _*_, _^_, _≤_}
 use mathlib.Core.Path.{_≡_}

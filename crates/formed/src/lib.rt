@@ -3,109 +3,100 @@
 ghost use mathlib.Core.Path.{_≡_};
 ghost use Prim.Native.Nat.{ℕ, _*_, _≤_, _<_};
 ghost use lib.ListN.{length, getD};
-ghost use Rattle.rules.specs.Checks.{inRange};
-ghost use Rattle.layout.specs.Places.{size, handlerLong, cellPart, handlerPart, numberIn};
-ghost use Rattle.layout.specs.WellFormed.{GoodBlock, isWellFormed};
+ghost use Rattle.limits.specs.Limits.{mostCells, mostHandlers, mostNumber};
+ghost use Rattle.layout.specs.Places.{bodyLong, handlerLong, cellPart, handlerPart, numberIn, phaseIn};
+ghost use Rattle.layout.specs.WellFormed.{GoodBlock, isGoodBody, isWellFormed};
 ghost use Rattle.formed.specs.Faults.{Faults, rowMost, blockMost};
 
 // What the bits of a row's numbers say above 65,535, laid over each other: 0 exactly where no number lies there.
 fn row_faults(row: &[u32]) -> u32
-    requires { ⌜ length (now row) ≤ 64 ⌝ }
-    ensures { λ r. ⌜ Faults rowMost ((y : ℕ) → y < length (now (row .entry)) → getD (now (row .entry)) y 0 ≤ 65535) r ⌝ }
+    requires { ⌜ length (now row) ≤ 2 * mostCells ⌝ }
+    ensures { λ r. ⌜ Faults rowMost ((y : ℕ) → y < length (now (row .entry)) → getD (now (row .entry)) y 0 ≤ mostNumber) r ⌝ }
 {
     let mut bits = 0u32;
     for y in 0..row.len() {
         bits = bits | row[y];
     }
-    bits / 65536
+    bits / limits::NO_NUMBER
+}
+
+// The fault of a phase: 1 where it lies above the last one.
+fn phase_fault(phase: u32, last: u32) -> u32
+    ensures { λ r. ⌜ Faults 1 (phase ≤ last) r ⌝ }
+{
+    if last < phase { 1 } else { 0 }
 }
 
 // The faults of one handler's block: its phase, its two sets and its two vectors of numbers.
-fn block_faults(block: &[u32], m: usize) -> u64
-    requires { ⌜ (length (now block) ≡ handlerLong m) × (m ≤ 32) ⌝ }
-    ensures { λ r. ⌜ Faults blockMost (GoodBlock m (now (block .entry))) r ⌝ }
+fn block_faults(block: &[u32], m: usize, last: u32) -> u64
+    requires { ⌜ (length (now block) ≡ handlerLong m) × (m ≤ mostCells) ⌝ }
+    ensures { λ r. ⌜ Faults blockMost (GoodBlock m (now (block .entry)) × (phaseIn (now (block .entry)) ≤ last)) r ⌝ }
 {
-    let phase = block[0] / 2;
-    let sets = ((block[1] | block[2]) as u64) >> m;
-    let end = 3 + 2 * m;
-    let numbers = row_faults(&block[3..end]);
+    let phase = phase_fault(block[places::PHASE], last);
+    let sets = ((block[places::READ_SET] | block[places::WRITTEN_SET]) as u64) >> m;
+    let end = places::copies(m);
+    let numbers = row_faults(&block[places::HANDLER_NUMBERS..end]);
     (phase as u64) + sets + (numbers as u64)
 }
 
 // The faults of all cells.
-fn cells_faults(words: &[u32], m: usize) -> u64
-    requires { ⌜ (m ≤ 32) × (size m 0 ≤ length (now words)) ⌝ }
-    ensures { λ r. ⌜ Faults (32 * rowMost) ((c : ℕ) → c < m → (y : ℕ) → y < m → numberIn (cellPart m (now (words .entry)) c) y ≤ 65535) r ⌝ }
+fn cells_faults(body: &[u32], m: usize) -> u64
+    requires { ⌜ (m ≤ mostCells) × (bodyLong m 0 ≤ length (now body)) ⌝ }
+    ensures { λ r. ⌜ Faults (mostCells * rowMost) ((c : ℕ) → c < m → (y : ℕ) → y < m → numberIn (cellPart m (now (body .entry)) c) y ≤ mostNumber) r ⌝ }
 {
     let mut faults = 0u64;
     for c in 0..m {
-        let a = 3 + c * (m + 1);
-        let e = a + m;
-        let more = row_faults(&words[a..e]);
+        let span = places::cell_at(m, c);
+        let start = span.start + places::NUMBERS;
+        let end = span.end;
+        let more = row_faults(&body[start..end]);
         faults = faults + (more as u64);
     }
     faults
 }
 
 // The faults of all handlers.
-fn blocks_faults(words: &[u32], m: usize, n: usize) -> u64
-    requires { ⌜ (m ≤ 32) × (n ≤ 16) × (size m n ≤ length (now words)) ⌝ }
-    ensures { λ r. ⌜ Faults (16 * blockMost) ((i : ℕ) → i < n → GoodBlock m (handlerPart m (now (words .entry)) i)) r ⌝ }
+fn blocks_faults(body: &[u32], m: usize, n: usize, last: u32) -> u64
+    requires { ⌜ (m ≤ mostCells) × (n ≤ mostHandlers) × (bodyLong m n ≤ length (now body)) ⌝ }
+    ensures { λ r. ⌜ Faults (mostHandlers * blockMost) ((i : ℕ) → i < n → GoodBlock m (handlerPart m (now (body .entry)) i) × (phaseIn (handlerPart m (now (body .entry)) i) ≤ last)) r ⌝ }
 {
-    let first = 2 + m * (m + 1);
-    let long = 3 + 3 * m;
     let mut faults = 0u64;
     for i in 0..n {
-        let a = first + i * long;
-        let e = a + long;
-        faults = faults + block_faults(&words[a..e], m);
+        let span = places::block_at(m, i);
+        let start = span.start;
+        let end = span.end;
+        faults = faults + block_faults(&body[start..end], m, last);
     }
     faults
 }
 
-// Whether m is 1 to 32 and n is 1 to 16.
-pub fn in_range(m: u32, n: u32) -> bool
-    ensures { λ r. ⌜ r ≡ inRange m n ⌝ }
+// Whether a body of m cells and n handlers is good, with no phase above the last one.
+pub fn good_body(body: &[u32], m: usize, n: usize, last: u32) -> bool
+    requires { ⌜ (m ≤ mostCells) × (n ≤ mostHandlers) ⌝ }
+    ensures { λ r. ⌜ r ≡ isGoodBody last m n (now (body .entry)) ⌝ }
 {
-    if m < 1 {
+    let need = places::body_words(m, n);
+    if body.len() < need {
         return false;
     }
-    if m > 32 {
-        return false;
-    }
-    if n < 1 {
-        return false;
-    }
-    n <= 16
-}
-
-// The words of a register.
-pub fn words_for(m: usize, n: usize) -> usize
-    requires { ⌜ (m ≤ 32) × (n ≤ 16) ⌝ }
-    ensures { λ r. ⌜ r ≡ size m n ⌝ }
-{
-    2 + m * (m + 1) + n * (3 + 3 * m)
+    let cells = cells_faults(body, m);
+    let blocks = blocks_faults(body, m, n, last);
+    cells + blocks == 0
 }
 
 // Whether the words are a well-formed register.
 pub fn well_formed(words: &[u32]) -> bool
     ensures { λ r. ⌜ r ≡ isWellFormed (now (words .entry)) ⌝ }
 {
-    if words.len() < 2 {
+    if words.len() < limits::FRONT {
         return false;
     }
-    let first = words[0];
-    let second = words[1];
-    if !in_range(first, second) {
+    let first = words[places::CELLS];
+    let second = words[places::HANDLERS];
+    if !limits::in_range(first, second) {
         return false;
     }
     let m = first as usize;
     let n = second as usize;
-    let need = words_for(m, n);
-    if words.len() < need {
-        return false;
-    }
-    let cells = cells_faults(words, m);
-    let blocks = blocks_faults(words, m, n);
-    cells + blocks == 0
+    good_body(&words[limits::FRONT..], m, n, 1)
 }

@@ -3,14 +3,14 @@ use Prim.Native.Nat.{ℕ, _^_, _<_}
 use native.Mathlib.Omega.{arith}
 use mathlib.Core.Path.{_≡_, refl, sym, ap}
 use mathlib.Core.Option.{none}
-use Rattle.rules.specs.Replies.{torn, overtaken, spent, Outcome, ok, value, committed, aborted, Refusal, Reply, Opening, ready}
-use Rattle.rules.specs.Replies.{notWellFormed, noHandler, noCell, alreadyOpen, notOpen, unknownStep, outOfRange, tooShort}
-use Rattle.rules.specs.Replies.{badFile, usedUp, tooManyCommits}
-use Rattle.rules.specs.Replies.{Numbers, refusalNumber, outcomeNumbers, refusalNumbers, replyNumbers}
-use Rattle.rules.specs.Demand.{reportedTo}
-use Rattle.rules.specs.Checks.{inRange}
-use Rattle.rules.proofs.Tables.{by}
-use Rattle.rules.proofs.Numbers.{Injective, refusals-apart, outcomes-apart, outcome-no-refusal}
+use Rattle.rules.specs.steps.Replies.{torn, overtaken, spent, Outcome, ok, value, committed, aborted, Refusal, Reply, Opening, ready}
+use Rattle.rules.specs.steps.Replies.{notWellFormed, noHandler, noCell, alreadyOpen, notOpen, unknownStep, outOfRange, tooShort}
+use Rattle.rules.specs.steps.Replies.{badFile, usedUp, tooManyCommits}
+use Rattle.rules.specs.steps.Replies.{Numbers, refusalNumber, outcomeNumbers, refusalNumbers, replyNumbers}
+use Rattle.rules.specs.demand.Demand.{reportedTo}
+use Rattle.rules.specs.steps.Checks.{inRange}
+use Rattle.rules.proofs.steps.Tables.{by}
+use Rattle.rules.proofs.steps.Numbers.{Injective, refusals-apart, outcomes-apart, outcome-no-refusal}
 use Rattle.layout.specs.Places.{size}
 use Rattle.promises.specs.Lengths.{lengthFor}
 use Rattle.gateway.specs.Packed.{lengthNumber, openingNumber, packed}

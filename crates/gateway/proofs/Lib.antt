@@ -1,3 +1,2 @@
 -- The laws of the numbers that the exported functions give.
-pub mod Tight
 pub mod Apart

@@ -1,12 +1,12 @@
 -- The promises of the register said of numbers: 0 or a length, 0 or a refusal's number, and kind · 2^32 + value or number.
 use Prim.Native.Nat.{ℕ, _+_, _*_, _^_}
-use mathlib.Core.Path.{_≡_}
 use mathlib.Core.List.{List}
 use mathlib.Core.Option.{Option, none, some}
-use Rattle.rules.specs.Replies.{Opening, ready, refused, refusalNumber, Numbers, Reply, replyNumbers}
-use Rattle.promises.specs.Lengths.{lengthFor}
-use Rattle.promises.specs.Opening.{OpeningPromise}
-use Rattle.promises.specs.Stepping.{StepPromise}
+use Rattle.rules.specs.Promise.{Due, Promise}
+use Rattle.rules.specs.steps.Replies.{Opening, ready, refused, refusalNumber, Numbers, Reply, replyNumbers}
+use Rattle.promises.specs.Lengths.{asksLength}
+use Rattle.promises.specs.Opening.{opening}
+use Rattle.promises.specs.Stepping.{stepping}
 
 -- A length as a number, 0 where there is none.
 abbrev pub lengthNumber : Option ℕ → ℕ
@@ -22,18 +22,24 @@ openingNumber (refused refusal) = refusalNumber refusal
 unfoldable pub packed : Numbers → ℕ
 packed n = n .kind * 2 ^ 32 + n .detail
 
+-- What an operation of the register comes to, with its reply said as a number.
+abbrev pub inNumbers : {Given Reply Left : Type 0} → (Reply → ℕ) → (Given → Due Reply Left) → Given → Due ℕ Left
+inNumbers number operation given = record { reply = number (operation given .reply); leaves = operation given .leaves }
+
 -- The promise of a length.
-pub record LengthNumber (m n reply : ℕ) : Type 0 where
-  pub replied : reply ≡ lengthNumber (lengthFor m n)
+abbrev pub LengthNumber : ℕ → ℕ → ℕ → Type 0
+LengthNumber m n number = Promise (inNumbers lengthNumber asksLength) (record { cells = m; handlers = n }) number tt
 
--- The promise of an opening: that of the register, for the reply that the number stands for.
-pub record OpeningNumber (words : List ℕ) (m n number : ℕ) (after : List ℕ) : Type 0 where
-  pub reply : Opening
-  pub replied : number ≡ openingNumber reply
-  pub opens : OpeningPromise words m n reply after
+-- The promise of an opening.
+abbrev pub OpeningNumber : List ℕ → ℕ → ℕ → ℕ → List ℕ → Type 0
+OpeningNumber words m n number after =
+    Promise (inNumbers openingNumber opening) (record { words = words; cells = m; handlers = n }) number after
 
--- The promise of a step: that of the register, for the reply that the number stands for.
-pub record StepNumber (words : List ℕ) (handler code value number : ℕ) (after : List ℕ) : Type 0 where
-  pub reply : Reply ℕ
-  pub replied : number ≡ packed (replyNumbers reply)
-  pub steps : StepPromise words handler code value reply after
+-- A reply to a step as a number.
+abbrev pub replyNumber : Reply ℕ → ℕ
+replyNumber reply = packed (replyNumbers reply)
+
+-- The promise of a step.
+abbrev pub StepNumber : List ℕ → ℕ → ℕ → ℕ → ℕ → List ℕ → Type 0
+StepNumber words handler code value number after =
+    Promise (inNumbers replyNumber stepping) (record { words = words; handler = handler; code = code; value = value }) number after

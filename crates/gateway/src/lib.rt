@@ -2,8 +2,8 @@
 // PUBLIC: nothing here has a `requires`. Each promise is the register's, said of numbers.
 ghost use mathlib.Core.Path.{_≡_};
 ghost use Prim.Native.Nat.{_+_, _*_, _^_, _≤_};
-ghost use Rattle.rules.specs.Replies.{outcomeNumbers};
-ghost use Rattle.replies.specs.Meaning.{outcomeOf};
+ghost use Rattle.rules.specs.steps.Replies.{outcomeNumbers};
+ghost use Rattle.replies.specs.Meaning.{outcomeIs};
 ghost use Rattle.gateway.specs.Packed.{packed, LengthNumber, OpeningNumber, StepNumber};
 use register::Needed;
 use replies::Answer;
@@ -42,7 +42,7 @@ fn pack(kind: u32, detail: u32) -> u64
 
 // An outcome in one number.
 fn pack_outcome(outcome: Outcome) -> u64
-    ensures { λ r. ⌜ r ≡ packed (outcomeNumbers (outcomeOf outcome)) ⌝ }
+    ensures { λ r. ⌜ r ≡ packed (outcomeNumbers (outcomeIs outcome)) ⌝ }
 {
     match outcome {
         Outcome::Done => pack(0, 0),

@@ -6,26 +6,32 @@ use mathlib.Core.Bool.{Bool, true, false, _||_}
 use mathlib.Core.List.{List}
 use lib.ListN.{getD}
 use borrow.Author.Tests.{lt-ltb}
-use Rattle.rules.specs.Tables.{if_then_else_, someBelow}
-use Rattle.rules.specs.Codes.{Step, try, read}
-use Rattle.rules.specs.Replies.{torn, overtaken, value, committed, aborted}
-use Rattle.rules.specs.Register.{Setting}
-use Rattle.rules.specs.Checks.{firstHit}
-use Rattle.rules.specs.History.{Deed, Commit, hasRead, hasWritten, writer, everyCommit}
-use Rattle.rules.specs.Past.{tears}
-use Rattle.rules.specs.Replay.{replay}
-use Rattle.rules.specs.Judge.{copied, stale, orAborted, answerRead, answerTry, answer}
-use Rattle.rules.proofs.NeverSpent.{short-try}
+use Rattle.rules.specs.steps.Tables.{if_then_else_, someBelow}
+use Rattle.rules.specs.steps.Codes.{Step, try, read}
+use Rattle.rules.specs.steps.Replies.{torn, overtaken, value, committed, aborted}
+use Rattle.rules.specs.steps.Register.{Setting}
+use Rattle.rules.specs.steps.Checks.{firstHit}
+use Rattle.rules.specs.history.History.{Deed, Commit, hasRead, hasWritten, writer, everyCommit}
+use Rattle.rules.specs.history.Past.{tears}
+use Rattle.rules.specs.history.Replay.{replay}
+use Rattle.rules.specs.demand.Judge.{copied, stale, orAborted, answerRead, answerTry, answer}
+use Rattle.rules.proofs.demand.NeverSpent.{short-try}
 use Rattle.layout.specs.Places.{cellsOf, handlersOf}
 use Rattle.layout.specs.View.{wordSetting}
+use Rattle.layout.specs.Places.{copyAt}
 use Rattle.ledger.specs.Entries.{Ledger, Entry, entryIn, withEntry, commitsNoted, mostCommits, handlerRow}
 use Rattle.ledger.specs.Histories.{deedsOf, commitsIn, historyIn}
-use Rattle.ledger.specs.Noting.{emptyEntry, readEntry, noteRead, noteOutcome, noteCommit}
+use Rattle.ledger.specs.Noting.{emptyEntry, readEntry, noteRead, noteOutcome, noteCommitRow}
 use Rattle.ledger.specs.Promises.{isCommit}
 use Rattle.ledger.proofs.Deeds.{hasSource, copies-at, reads-at, written-at}
 use Rattle.ledger.proofs.Commits.{commits-count}
-use Rattle.ledger.proofs.Notes.{now-is}
-use Rattle.judge.specs.Taking.{answerOf, Ready, Roomy, Takes}
+use Rattle.ledger.proofs.Faithful.{now-is}
+use Rattle.judge.specs.Taking.{answerOf, JudgeReady, HasRoom, TakesNoted}
+
+-- What is noted in a row that is the handler's is noted in the handler's row.
+pub in-row : (words : List ℕ) (i : ℕ) {row : ℕ} {after : List ℕ} (new : Entry → Entry) → row ≡ handlerRow i
+    → after ≡ withEntry words row (new (entryIn words row)) → after ≡ withEntry words (handlerRow i) (new (entryIn words (handlerRow i)))
+in-row words i new there left = left ∙ ap (λ (k : ℕ). withEntry words k (new (entryIn words k))) there
 
 module _ (words : List ℕ) where
   -- The rules over these words.
@@ -65,7 +71,7 @@ module _ {words : List ℕ} {i : ℕ} (ledger : Ledger words) (seat : i < handle
       ap (answerTry (S words) (commits words)) (now-is ledger seat)
       ∙ short-try (S words) (commits words) (deeds words i) (omega (arith, ledger .few, commits-count (cellsOf words) words (commitsNoted words)))
 
-module _ {words : List ℕ} {m i x : ℕ} (ready : Ready words m i (read x)) where
+module _ {words : List ℕ} {m i x : ℕ} (ready : JudgeReady words m i (read x)) where
   -- The row of the handler.
   abbrev entry : Entry
   entry = entryIn words (handlerRow i)
@@ -100,15 +106,22 @@ module _ {words : List ℕ} {m i x : ℕ} (ready : Ready words m i (read x)) whe
   -- ── What is taken ───────────────────────────────────────────────────
 
   -- A read that is answered with the copy leaves the words,
-  pub takes-again : touched words i x ≡ true → (v : ℕ) → Takes words i (read x) v (value (getD words ((1 + i) * 66 + (34 + x)) 0)) words
+  pub takes-again : {at : ℕ} → at ≡ copyAt (handlerRow i) x → touched words i x ≡ true → (v : ℕ)
+      → TakesNoted words i (read x) v (value (getD words at 0)) words
   unfolding noteOutcome noteRead entryIn
-  takes-again t v = record { replied = sym (answer-again t); left = rw (answer-again t, touched-is ∙ t) }
+  takes-again placed t v = record {
+    replied = ap (λ (at : ℕ). value (getD words at 0)) placed ∙ sym (answer-again t);
+    left = rw (answer-again t, touched-is ∙ t);
+  }
 
   -- one that is torn ends the transaction,
   pub takes-torn : touched words i x ≡ false → isTorn words i x ≡ true → (v : ℕ) {after : List ℕ}
-      → after ≡ withEntry words (handlerRow i) (emptyEntry 0) → Takes words i (read x) v (aborted torn) after
+      → {row : ℕ} → row ≡ handlerRow i → after ≡ withEntry words row (emptyEntry 0) → TakesNoted words i (read x) v (aborted torn) after
   unfolding noteOutcome
-  takes-torn first t v left = record { replied = sym (answer-torn first t); left = left ∙ rw (answer-torn first t) }
+  takes-torn first t v there left = record {
+    replied = sym (answer-torn first t);
+    left = in-row words i (λ _. emptyEntry 0) there left ∙ rw (answer-torn first t);
+  }
 
   -- A first read of a cell not written is noted with the commit that wrote what it found.
   first-noted : touched words i x ≡ false → (found : ℕ)
@@ -119,47 +132,54 @@ module _ {words : List ℕ} {m i x : ℕ} (ready : Ready words m i (read x)) whe
   -- and another is noted.
   pub takes-first : touched words i x ≡ false → isTorn words i x ≡ false → (v place found : ℕ) {after : List ℕ}
       → place ≡ writer (commits words) x → found ≡ replay (S words) (commits words) everyCommit x
-      → after ≡ withEntry words (handlerRow i) (readEntry entry x place found)
-      → Takes words i (read x) v (value found) after
+      → {row : ℕ} → row ≡ handlerRow i → after ≡ withEntry words row (readEntry (entryIn words row) x place found)
+      → TakesNoted words i (read x) v (value found) after
   unfolding noteOutcome
-  takes-first first t v place found wrote holds left = record {
+  takes-first first t v place found wrote holds there left = record {
     replied = ap value holds ∙ sym (answer-first first t);
-    left = left ∙ ap₂ (λ (source value : ℕ). withEntry words (handlerRow i) (readEntry entry x source value)) wrote holds
+    left = in-row words i (λ e. readEntry e x place found) there left ∙ ap₂ (λ (source value : ℕ). withEntry words (handlerRow i) (readEntry entry x source value)) wrote holds
         ∙ sym (first-noted first (replay (S words) (commits words) everyCommit x)) ∙ rw (answer-first first t);
   }
 
-module _ {words : List ℕ} {m i : ℕ} (ready : Ready words m i try) where
+module _ {words : List ℕ} {m i : ℕ} (ready : JudgeReady words m i try) where
   -- A try with a stale read ends the transaction,
   pub takes-overtaken : isStale words i ≡ true → (v : ℕ) {after : List ℕ}
-      → after ≡ withEntry words (handlerRow i) (emptyEntry 0) → Takes words i try v (aborted overtaken) after
+      → {row : ℕ} → row ≡ handlerRow i → after ≡ withEntry words row (emptyEntry 0) → TakesNoted words i try v (aborted overtaken) after
   unfolding noteOutcome
-  takes-overtaken t v left =
+  takes-overtaken t v there left =
       let said : answerOf words i try ≡ aborted overtaken = try-asked (ready .ledger) (ready .handler) ∙ rw t in
-      record { replied = sym said; left = left ∙ rw said }
+      record { replied = sym said; left = in-row words i (λ _. emptyEntry 0) there left ∙ rw said }
 
   -- and one without commits.
-  pub takes-commit : isStale words i ≡ false → (v : ℕ) {after : List ℕ} → after ≡ noteCommit words i → Takes words i try v committed after
+  pub takes-commit : isStale words i ≡ false → (v : ℕ) {after : List ℕ} → after ≡ noteCommitRow words i → TakesNoted words i try v committed after
   unfolding noteOutcome
   takes-commit t v left =
       let said : answerOf words i try ≡ committed = try-asked (ready .ledger) (ready .handler) ∙ rw t in
       record { replied = sym said; left = left ∙ rw said }
 
   -- If there is room for what a try comes to, there is room for its commit.
-  pub commit-room : Roomy words i try → isStale words i ≡ false → commitsNoted words < mostCommits
+  pub commit-room : HasRoom words i try → isStale words i ≡ false → commitsNoted words < mostCommits
   commit-room room t = room (ap isCommit (try-asked (ready .ledger) (ready .handler)) ∙ rw t)
 
 -- ── What was asked ────────────────────────────────────────────────────
 
-module _ {words : List ℕ} {m i : ℕ} {s : Step} (ready : Ready words m i s) {told : Bool} where
+module _ {words : List ℕ} {m i : ℕ} {s : Step} (ready : JudgeReady words m i s) {told : Bool} where
   -- What was found stale of m cells is what the words' cells say,
-  pub stale-told : told ≡ someBelow m (stale (commitsIn m words (commitsNoted words)) (deedsOf (entryIn words (handlerRow i)) m))
+  pub stale-told : {row : ℕ} → row ≡ handlerRow i
+      → told ≡ someBelow m (stale (commitsIn m words (commitsNoted words)) (deedsOf (entryIn words row) m))
       → isStale words i ≡ told
-  stale-told e = sym (e ∙ ap (λ cells. someBelow cells (stale (commitsIn cells words (commitsNoted words))
-      (deedsOf (entryIn words (handlerRow i)) cells))) (ready .cells))
+  stale-told there e = sym (e ∙ ap₂ (λ cells row. someBelow cells (stale (commitsIn cells words (commitsNoted words))
+      (deedsOf (entryIn words row) cells))) (ready .cells) there)
 
   -- and so is what was found torn.
-  pub torn-told : (x : ℕ) {place : ℕ} → place ≡ writer (commits words) x
-      → told ≡ tears m (commitsIn m words (commitsNoted words)) (deedsOf (entryIn words (handlerRow i)) m) place → isTorn words i x ≡ told
-  torn-told x {place} wrote e =
+  pub torn-told : (x : ℕ) {row place : ℕ} → row ≡ handlerRow i → place ≡ writer (commits words) x
+      → told ≡ tears m (commitsIn m words (commitsNoted words)) (deedsOf (entryIn words row) m) place → isTorn words i x ≡ told
+  torn-told x {place = place} there wrote e =
       ap (tears (cellsOf words) (commits words) (deeds words i)) (sym wrote)
-      ∙ sym (e ∙ ap (λ cells. tears cells (commitsIn cells words (commitsNoted words)) (deedsOf (entryIn words (handlerRow i)) cells) place) (ready .cells))
+      ∙ sym (e ∙ ap₂ (λ cells row. tears cells (commitsIn cells words (commitsNoted words)) (deedsOf (entryIn words row) cells) place) (ready .cells) there)
+
+-- What was found of a row that is the handler's is what the handler's row says.
+pub touched-told : (words : List ℕ) (i x : ℕ) {row : ℕ} {told : Bool} → row ≡ handlerRow i
+    → told ≡ hasRead (deedsOf (entryIn words row) (cellsOf words)) x || hasWritten (deedsOf (entryIn words row) (cellsOf words)) x
+    → touched words i x ≡ told
+touched-told words i x there e = sym (e ∙ ap (λ (k : ℕ). let done = deedsOf (entryIn words k) (cellsOf words) in hasRead done x || hasWritten done x) there)

@@ -1,16 +1,16 @@
 -- What the judge shows of a cell, by its ways.
 use Prim.Native.Nat.{ℕ, _≤_, _<_}
-use mathlib.Core.Path.{_≡_, ap₂}
+use mathlib.Core.Path.{_≡_, refl, ap₂}
 use mathlib.Core.Bool.{false, and-false}
 use mathlib.Core.List.{List}
 use mathlib.Core.Option.{none, some}
 use borrow.Author.Tests.{lt-ltb, le-ltb}
-use Rattle.rules.specs.History.{everyCommit}
-use Rattle.rules.specs.Replay.{replay}
-use Rattle.rules.specs.Judge.{versionCount}
+use Rattle.rules.specs.history.History.{everyCommit}
+use Rattle.rules.specs.history.Replay.{replay}
+use Rattle.rules.specs.demand.Judge.{versionCount}
 use Rattle.layout.specs.Places.{cellsOf}
 use Rattle.layout.specs.View.{wordSetting}
-use Rattle.schedule.specs.Shown.{CellLine}
+use Rattle.replies.specs.Ends.{CellLine}
 use Rattle.ledger.specs.Entries.{commitsNoted, Ledger, isLedger}
 use Rattle.ledger.specs.Histories.{commitsIn, historyIn}
 use Rattle.ledger.proofs.Tested.{tested}
@@ -19,12 +19,12 @@ use Rattle.judge.specs.Ending.{judgedEnd, JudgedEndPromise}
 -- Words that are no ledger show nothing,
 pub no-end : (words : List ℕ) (c : ℕ) → isLedger words ≡ false → JudgedEndPromise words c none
 unfolding judgedEnd
-no-end words c e = record { replied = rw e }
+no-end words c e = record { replied = rw e; left = refl }
 
 -- nor does a cell beyond,
 pub end-beyond : (words : List ℕ) (c : ℕ) → cellsOf words ≤ c → JudgedEndPromise words c none
 unfolding judgedEnd
-end-beyond words c outside = record { replied = rw (le-ltb c (cellsOf words) outside, and-false (isLedger words)) }
+end-beyond words c outside = record { replied = rw (le-ltb c (cellsOf words) outside, and-false (isLedger words)); left = refl }
 
 -- and another shows its value and how many commits wrote it.
 pub end-shown : {words : List ℕ} {c value number : ℕ} → Ledger words → c < cellsOf words
@@ -35,4 +35,5 @@ unfolding judgedEnd historyIn
 end-shown {words} {c} ledger inside holds counted = record {
   replied = rw (tested words .1 ledger, lt-ltb c (cellsOf words) inside)
       (ap₂ (λ (v k : ℕ). some (let line : CellLine = record { value = v; number = k } in line)) holds counted);
+  left = refl;
 }

@@ -5,4 +5,3 @@ pub mod Passing
 pub mod Stepping
 pub mod Opening
 pub mod Ends
-pub mod Tight

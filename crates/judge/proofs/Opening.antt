@@ -7,11 +7,11 @@ use mathlib.Core.List.{List, _∷_, _++_}
 use lib.ListN.{length, getD, set, drop, length-set, length-drop}
 use lib.Seq.{ext-getD, getD-drop, drop-cons, getD-set-same, getD-set-other}
 use borrow.Author.Tests.{le-ltb}
-use Rattle.rules.specs.Replies.{Refusal, Opening, ready}
-use Rattle.rules.specs.Register.{zeros}
-use Rattle.rules.specs.Checks.{firstHit, inRange, openingChecks}
-use Rattle.rules.specs.Given.{OpeningGiven}
-use Rattle.rules.proofs.Given.{opening-exactly}
+use Rattle.rules.specs.steps.Replies.{Refusal, Opening, ready}
+use Rattle.rules.specs.steps.Register.{zeros}
+use Rattle.rules.specs.steps.Checks.{firstHit, inRange, openingChecks}
+use Rattle.rules.specs.steps.Given.{OpeningGiven}
+use Rattle.rules.proofs.steps.Given.{opening-exactly}
 use Rattle.layout.specs.Rows.{row}
 use Rattle.layout.proofs.Rows.{row-cut}
 use Rattle.words.specs.Rows.{Changed}
@@ -21,7 +21,7 @@ use Rattle.ledger.specs.Promises.{ledgerRefusal, freshLedger, ledgerWords, Ledg
 
 module _ (words : List ℕ) (m n : ℕ) where
   -- What is given a number is refused with it.
-  pub ledger-stops : (refusal : Refusal) → OpeningGiven refusal m n (length words) ledgerLong
+  pub ledger-stops : (refusal : Refusal) → OpeningGiven m n (length words) ledgerLong refusal
       → LedgerPromise words m n (Opening.refused refusal) words
   unfolding ledgerRefusal openingReply ledgerWords
   ledger-stops refusal given =

@@ -3,36 +3,37 @@ use Prim.Native.Nat.{ℕ}
 use mathlib.Core.Path.{_≡_, refl, ap}
 use mathlib.Core.Bool.{true, false}
 use mathlib.Core.List.{List}
-use Rattle.rules.specs.Codes.{Step, begin, write}
-use Rattle.rules.specs.Replies.{ok, Outcome, tooManyCommits, Reply}
-use Rattle.rules.specs.Demand.{reportedTo}
-use Rattle.rules.specs.Judge.{answer}
+use Rattle.rules.specs.steps.Codes.{Step, begin, write}
+use Rattle.rules.specs.steps.Replies.{ok, Outcome, tooManyCommits, Reply}
+use Rattle.rules.specs.demand.Demand.{reportedTo}
+use Rattle.rules.specs.demand.Judge.{answer}
 use Rattle.ledger.specs.Entries.{commitsNoted, entryIn, withEntry, handlerRow}
 use Rattle.ledger.specs.Noting.{emptyEntry, writtenEntry, noteOutcome, noteWords}
 use Rattle.ledger.specs.Promises.{isCommit, limited}
 use Rattle.ledger.proofs.Steps.{room-for}
-use Rattle.judge.specs.Taking.{answerOf, Roomy, Takes, Passes}
+use Rattle.judge.specs.Taking.{answerOf, HasRoom, TakesNoted, Passes}
+use Rattle.judge.proofs.Answers.{in-row}
 use Rattle.judge.proofs.Tests.{tooMany}
 
 -- ── Taken ─────────────────────────────────────────────────────────────
 
 -- A begin is taken by emptying the handler's row,
-pub takes-begin : (words : List ℕ) (i v : ℕ) {after : List ℕ} → after ≡ withEntry words (handlerRow i) (emptyEntry 1)
-    → Takes words i begin v ok after
+pub takes-begin : (words : List ℕ) (i v : ℕ) {row : ℕ} {after : List ℕ} → row ≡ handlerRow i → after ≡ withEntry words row (emptyEntry 1)
+    → TakesNoted words i begin v ok after
 unfolding answer noteOutcome
-takes-begin words i v left = record { replied = refl; left = left }
+takes-begin words i v there left = record { replied = refl; left = in-row words i (λ _. emptyEntry 1) there left }
 
 -- and a write by noting it there.
-pub takes-write : (words : List ℕ) (i x v : ℕ) {after : List ℕ}
-    → after ≡ withEntry words (handlerRow i) (writtenEntry (entryIn words (handlerRow i)) x v) → Takes words i (write x) v ok after
+pub takes-write : (words : List ℕ) (i x v : ℕ) {row : ℕ} {after : List ℕ} → row ≡ handlerRow i
+    → after ≡ withEntry words row (writtenEntry (entryIn words row) x v) → TakesNoted words i (write x) v ok after
 unfolding answer noteOutcome
-takes-write words i x v left = record { replied = refl; left = left }
+takes-write words i x v there left = record { replied = refl; left = in-row words i (λ e. writtenEntry e x v) there left }
 
 -- ── Passed ────────────────────────────────────────────────────────────
 
 module _ (words : List ℕ) (i : ℕ) (s : Step) where
   -- What is not one commit too many has room.
-  pub has-room : tooMany words i s ≡ false → Roomy words i s
+  pub has-room : tooMany words i s ≡ false → HasRoom words i s
   has-room = room-for (commitsNoted words) (isCommit (answerOf words i s))
 
   -- One commit too many is refused, and nothing is noted,
@@ -41,7 +42,7 @@ module _ (words : List ℕ) (i : ℕ) (s : Step) where
   pass-stops full = record { replied = rw full; left = rw full }
 
   -- and everything else is reported.
-  pub pass-takes : {code v : ℕ} {outcome : Outcome ℕ} {after : List ℕ} → tooMany words i s ≡ false → Takes words i s v outcome after
+  pub pass-takes : {code v : ℕ} {outcome : Outcome ℕ} {after : List ℕ} → tooMany words i s ≡ false → TakesNoted words i s v outcome after
       → Passes words i code s v (reportedTo i code outcome) after
   unfolding limited noteWords
   pass-takes {code} passes takes = record { replied = rw passes (ap (reportedTo i code) (takes .replied)); left = rw passes (takes .left) }

@@ -1,25 +1,24 @@
 -- The judge's step by its ways: no ledger, refused by a check, or passed.
 use Prim.Native.Nat.{ℕ}
 use mathlib.Core.Path.{_≡_, refl, sym, ap, ap₂, _∙_}
-use mathlib.Core.Bool.{Bool, false}
+use mathlib.Core.Bool.{Bool, true, false}
 use mathlib.Core.List.{List}
 use mathlib.Core.Option.{Option, none, some}
-use Rattle.rules.specs.Codes.{Step, Kind, known, kindOf}
-use Rattle.rules.specs.Replies.{Refusal, notWellFormed, Reply}
-use Rattle.rules.specs.Checks.{firstHit, stepChecks}
-use Rattle.rules.specs.Demand.{reportedTo}
-use Rattle.rules.specs.Judge.{askedByHistory, judgement}
-use Rattle.rules.proofs.Given.{given-exactly, free-exactly}
-use Rattle.rules.proofs.Judged.{judged-refused, judged-free}
+use Rattle.rules.specs.steps.Codes.{Step, Kind, known, plainSheet}
+use Rattle.rules.specs.steps.Replies.{Refusal, notWellFormed, Reply}
+use Rattle.rules.specs.steps.Checks.{asking, firstHit, stepChecks}
+use Rattle.rules.specs.demand.Demand.{reportedTo}
+use Rattle.rules.specs.demand.Judge.{askedByHistory, judgement}
+use Rattle.rules.proofs.steps.Given.{given-exactly, free-exactly}
+use Rattle.rules.proofs.demand.Judged.{judged-refused, judged-free}
 use Rattle.layout.specs.Places.{cellsOf, handlersOf}
 use Rattle.layout.specs.View.{wordSetting}
-use Rattle.steps.specs.Meaning.{askedPlainly}
 use Rattle.ledger.specs.Entries.{commitsNoted, Ledger, isLedger}
 use Rattle.ledger.specs.Histories.{historyIn}
 use Rattle.ledger.specs.Noting.{noteWords}
 use Rattle.ledger.specs.Promises.{limited, judgedReply, JudgedPromise}
 use Rattle.ledger.proofs.Steps.{limited-other, refusal-unnoted, reply-limited}
-use Rattle.judge.specs.Taking.{answerOf, Ready, Passes}
+use Rattle.judge.specs.Taking.{answerOf, JudgeReady, Passes}
 
 module _ (words : List ℕ) (handler code : ℕ) where
   -- What the checks say of a step by the history.
@@ -27,18 +26,18 @@ module _ (words : List ℕ) (handler code : ℕ) where
   says = firstHit (stepChecks (askedByHistory (wordSetting (cellsOf words)) (handlersOf words) (historyIn words) handler code))
 
   -- They are asked for the kind of the code and for the handler's phase.
-  pub asked-plainly : {kind : Kind} {opened : Bool} → kind ≡ kindOf code → opened ≡ historyIn words .opened handler
-      → firstHit (stepChecks (askedPlainly (cellsOf words) (handlersOf words) handler kind opened)) ≡ says
+  pub asked-plainly : {kind : Kind} {opened : Bool} → kind ≡ plainSheet code → opened ≡ historyIn words .opened handler
+      → firstHit (stepChecks (asking true (cellsOf words) (handlersOf words) handler kind opened)) ≡ says
   asked-plainly kind opened =
-      ap₂ (λ k o. firstHit (stepChecks (askedPlainly (cellsOf words) (handlersOf words) handler k o))) kind opened
+      ap₂ (λ k o. firstHit (stepChecks (asking true (cellsOf words) (handlersOf words) handler k o))) kind opened
 
 module _ (words : List ℕ) (handler code value : ℕ) where
   -- Words that are no ledger: 10.
   pub step-malformed : isLedger words ≡ false → JudgedPromise words handler code value (Reply.refused notWellFormed) words
   step-malformed e = record {
     replied = sym refused;
-    left = sym (ap (noteWords words handler (kindOf code) value) refused
-        ∙ refusal-unnoted words handler (kindOf code) value notWellFormed);
+    left = sym (ap (noteWords words handler (plainSheet code) value) refused
+        ∙ refusal-unnoted words handler (plainSheet code) value notWellFormed);
   }
     where
       refused : judgedReply words handler code ≡ Reply.refused notWellFormed
@@ -49,42 +48,42 @@ module _ (words : List ℕ) (handler code value : ℕ) where
     promised : {reply : Reply ℕ} {after : List ℕ} (told : Reply ℕ)
         → judgement (wordSetting (cellsOf words)) (handlersOf words) (historyIn words) handler code ≡ told
         → reply ≡ limited (commitsNoted words) told
-        → after ≡ noteWords words handler (kindOf code) value (limited (commitsNoted words) told)
+        → after ≡ noteWords words handler (plainSheet code) value (limited (commitsNoted words) told)
         → JudgedPromise words handler code value reply after
     promised told e replied left =
         let same = reply-limited ledger handler code ∙ ap (limited (commitsNoted words)) e in
-        record { replied = replied ∙ sym same; left = left ∙ ap (noteWords words handler (kindOf code) value) (sym same) }
+        record { replied = replied ∙ sym same; left = left ∙ ap (noteWords words handler (plainSheet code) value) (sym same) }
 
     -- What the checks refuse is refused.
     pub step-stops : (refusal : Refusal) → says words handler code ≡ some refusal → JudgedPromise words handler code value (Reply.refused refusal) words
     step-stops refusal e = promised (Reply.refused refusal) (judged-refused _ _ _ _ _ refusal (given-exactly _ refusal .0 e)) (sym within)
-        (sym (ap (noteWords words handler (kindOf code) value) within ∙ refusal-unnoted words handler (kindOf code) value refusal))
+        (sym (ap (noteWords words handler (plainSheet code) value) within ∙ refusal-unnoted words handler (plainSheet code) value refusal))
       where
         within : limited (commitsNoted words) (Reply.refused refusal) ≡ Reply.refused refusal
         within = limited-other (commitsNoted words) (Reply.refused refusal) refl
 
     module _ (e : says words handler code ≡ none) where
       -- What they let through is ready,
-      pub step-ready : (s : Step) × (kindOf code ≡ known s) × Ready words (cellsOf words) handler s
+      pub step-ready : (s : Step) × (plainSheet code ≡ known s) × JudgeReady words (cellsOf words) handler s
       step-ready =
           let (s, free) = free-exactly _ .0 e in (
             s,
-            free .placed .heard .known,
+            free .fits .heard .known,
             record {
               ledger = ledger;
               cells = refl;
-              handler = free .placed .heard .handler;
-              cell = free .placed .cell;
+              handler = free .fits .heard .handler;
+              cell = free .fits .cell;
               phase = free .phase;
             },
           )
 
       -- and passed.
-      pub step-passes : {reply : Reply ℕ} {after : List ℕ} → ((s : Step) → kindOf code ≡ known s → Passes words handler code s value reply after)
+      pub step-passes : {reply : Reply ℕ} {after : List ℕ} → ((s : Step) → plainSheet code ≡ known s → Passes words handler code s value reply after)
           → JudgedPromise words handler code value reply after
       step-passes passes =
           let (s, free) = free-exactly _ .0 e in
-          let asks : kindOf code ≡ known s = free .placed .heard .known in
+          let asks : plainSheet code ≡ known s = free .fits .heard .known in
           let passed = passes s asks in
           let told : Reply ℕ = reportedTo handler code (answerOf words handler s) in
           promised told (judged-free _ _ _ _ _ s free) (passed .replied)

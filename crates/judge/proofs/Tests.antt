@@ -1,27 +1,27 @@
 -- What the judge reads off its words before a step.
 use Prim.Native.Nat.{ℕ, _+_, _*_, _≤_, _<_}
-use mathlib.Core.Path.{_≡_, refl, sym}
+use mathlib.Core.Path.{_≡_, refl, sym, ap, _∙_}
 use mathlib.Core.Bool.{Bool, true, false, not, _&&_, _||_, and-false}
 use mathlib.Core.List.{List}
 use lib.ListN.{length, getD}
 use lib.Dec.{eqb, leb}
 use borrow.Author.Tests.{lt-leb, le-leb}
-use Rattle.rules.specs.Tables.{if_then_else_}
-use Rattle.rules.specs.Codes.{Step, begin, try, read, write}
-use Rattle.rules.specs.Replies.{overtaken, committed, aborted}
-use Rattle.rules.specs.Checks.{inRange, firstHit}
-use Rattle.rules.specs.Register.{Setting}
-use Rattle.rules.specs.History.{Deed, Commit, hasRead, hasWritten, writer}
-use Rattle.rules.specs.Past.{tears}
-use Rattle.rules.specs.Judge.{orAborted, answerRead, answer}
-use Rattle.rules.proofs.Tables.{by}
-use Rattle.layout.specs.Places.{cellsOf, handlersOf}
+use Rattle.rules.specs.steps.Tables.{if_then_else_}
+use Rattle.rules.specs.steps.Codes.{Step, begin, try, read, write}
+use Rattle.rules.specs.steps.Replies.{overtaken, committed, aborted}
+use Rattle.rules.specs.steps.Checks.{inRange, firstHit}
+use Rattle.rules.specs.steps.Register.{Setting}
+use Rattle.rules.specs.history.History.{Deed, Commit, hasRead, hasWritten, writer}
+use Rattle.rules.specs.history.Past.{tears}
+use Rattle.rules.specs.demand.Judge.{orAborted, answerRead, answer}
+use Rattle.rules.proofs.steps.Tables.{by}
+use Rattle.layout.specs.Places.{cellsOf, handlersOf, rowStart}
 use Rattle.layout.specs.View.{wordSetting}
 use Rattle.layout.proofs.Rows.{below-beyond}
 use Rattle.ledger.specs.Entries.{ledgerLong, mostCommits, commitsNoted, Ledger, isLedger, handlerRow, entryIn}
 use Rattle.ledger.specs.Histories.{isOpen, historyIn}
 use Rattle.ledger.specs.Promises.{isCommit}
-use Rattle.ledger.proofs.Notes.{opened-is}
+use Rattle.ledger.proofs.Faithful.{opened-is}
 use Rattle.judge.specs.Taking.{answerOf}
 use Rattle.judge.proofs.Answers.{isStale, try-asked}
 
@@ -52,10 +52,11 @@ beyond-idle words handler outside =
     sym (below-beyond (handlersOf words) false (λ i. isOpen (entryIn words (handlerRow i))) handler outside)
 
 -- and of each the first word of its row says it.
-pub phase-told : {words : List ℕ} {handler : ℕ} → Ledger words → handler < handlersOf words
-    → not (eqb (getD words ((1 + handler) * 66) 0) 0) ≡ historyIn words .opened handler
+pub phase-told : {words : List ℕ} {handler row at : ℕ} → row ≡ handlerRow handler → at ≡ rowStart row → Ledger words → handler < handlersOf words
+    → not (eqb (getD words at 0) 0) ≡ historyIn words .opened handler
 unfolding entryIn
-phase-told ledger seat = sym (opened-is ledger seat)
+phase-told {words} there placed ledger seat =
+    ap (λ (k : ℕ). not (eqb (getD words k 0) 0)) (placed ∙ ap rowStart there) ∙ sym (opened-is ledger seat)
 
 -- ── One commit too many ───────────────────────────────────────────────
 

@@ -1,13 +1,14 @@
+-- For internal contracts alone: what our own functions are called with and leave. Nothing here need be believed.
 -- What the judge's steps require, and that they answer and note as the rules' definitions say.
 use Prim.Native.Nat.{ℕ, _<_}
 use mathlib.Core.Path.{_≡_}
 use mathlib.Core.Bool.{true}
 use mathlib.Core.List.{List}
-use Rattle.rules.specs.Codes.{Step, known}
-use Rattle.rules.specs.Replies.{Outcome, Reply}
-use Rattle.rules.specs.Given.{Within, phaseFor}
-use Rattle.rules.specs.Demand.{reportedTo}
-use Rattle.rules.specs.Judge.{answer}
+use Rattle.rules.specs.steps.Codes.{Step, known}
+use Rattle.rules.specs.steps.Replies.{Outcome, Reply}
+use Rattle.rules.specs.steps.Given.{Within, phaseFor}
+use Rattle.rules.specs.demand.Demand.{reportedTo}
+use Rattle.rules.specs.demand.Judge.{answer}
 use Rattle.layout.specs.Places.{cellsOf, handlersOf}
 use Rattle.layout.specs.View.{wordSetting}
 use Rattle.ledger.specs.Entries.{Ledger, commitsNoted, mostCommits}
@@ -20,7 +21,7 @@ abbrev pub answerOf : List ℕ → ℕ → Step → Outcome ℕ
 answerOf words i s = answer (wordSetting (cellsOf words)) (historyIn words) i s
 
 -- The words are a ledger of m cells, and no check refuses the step s of handler i.
-pub record Ready (words : List ℕ) (m i : ℕ) (s : Step) : Type 0 where
+pub record JudgeReady (words : List ℕ) (m i : ℕ) (s : Step) : Type 0 where
   pub ledger : Ledger words
   pub cells : m ≡ cellsOf words
   pub handler : i < handlersOf words
@@ -28,16 +29,16 @@ pub record Ready (words : List ℕ) (m i : ℕ) (s : Step) : Type 0 where
   pub phase : historyIn words .opened i ≡ phaseFor s
 
 -- If the step is a commit, there is room for one more.
-abbrev pub Roomy : List ℕ → ℕ → Step → Type 0
-Roomy words i s = isCommit (answerOf words i s) ≡ true → commitsNoted words < mostCommits
+abbrev pub HasRoom : List ℕ → ℕ → Step → Type 0
+HasRoom words i s = isCommit (answerOf words i s) ≡ true → commitsNoted words < mostCommits
 
 -- Besides, there is room for what it comes to.
 pub record Able (words : List ℕ) (m i : ℕ) (s : Step) : Type 0 where
-  pub ready : Ready words m i s
-  pub room : Roomy words i s
+  pub ready : JudgeReady words m i s
+  pub room : HasRoom words i s
 
 -- The step is answered as the history says, and noted.
-pub record Takes (words : List ℕ) (i : ℕ) (s : Step) (value : ℕ) (outcome : Outcome ℕ) (after : List ℕ) : Type 0 where
+pub record TakesNoted (words : List ℕ) (i : ℕ) (s : Step) (value : ℕ) (outcome : Outcome ℕ) (after : List ℕ) : Type 0 where
   pub replied : outcome ≡ answerOf words i s
   pub left : after ≡ noteOutcome words i s value (answerOf words i s)
 

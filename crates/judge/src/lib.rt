@@ -6,51 +6,57 @@ mod taking;
 ghost use mathlib.Core.Path.{_≡_};
 ghost use Rattle.ledger.specs.Entries.{ledgerLong};
 ghost use Rattle.ledger.specs.Promises.{LedgerPromise, JudgedPromise};
-ghost use Rattle.replies.specs.Meaning.{replyOf, openingOf};
-ghost use Rattle.schedule.specs.Shown.{endIs};
+ghost use Rattle.replies.specs.Meaning.{replyIs, openingIs};
+ghost use Rattle.replies.specs.Ends.{endIs};
 ghost use Rattle.judge.specs.Ending.{JudgedEndPromise};
 use crate::reading::is_ledger;
 use crate::reading::is_open;
 use crate::taking::pass;
+use checks::Verdict;
 use replies::Answer;
+use replies::End;
 use replies::Opened;
 use replies::Refusal;
-use schedule::End;
-use steps::Verdict;
 
 // The words that the judge needs, for any numbers of cells and handlers.
 pub fn words_needed() -> usize
     ensures { λ r. ⌜ r ≡ ledgerLong ⌝ }
 {
-    5346
+    limits::LEDGER_WORDS
 }
 
 // Opens a ledger for m cells and n handlers in front of the words.
 pub fn open(words: &mut [u32], m: u32, n: u32) -> Opened
-    ensures { λ r. ⌜ LedgerPromise (now (words .entry)) m n (openingOf r) (now (words .exit)) ⌝ }
+    ensures { λ r. ⌜ LedgerPromise (now (words .entry)) m n (openingIs r) (now (words .exit)) ⌝ }
 {
-    if !formed::in_range(m, n) {
+    if !limits::in_range(m, n) {
         return Opened::Rejected(Refusal::OutOfRange);
     }
-    if words.len() < 5346 {
+    if words.len() < limits::LEDGER_WORDS {
         return Opened::Rejected(Refusal::TooShort);
     }
-    words::clear(words, 2, 5344);
-    words[0] = m;
-    words[1] = n;
+    words::clear(words, limits::FRONT, limits::LEDGER_BEHIND);
+    words[places::CELLS] = m;
+    words[places::HANDLERS] = n;
     Opened::Ready
 }
 
 // Judges the step of a handler, or refuses it.
 pub fn step(words: &mut [u32], handler: u32, code: u32, value: u32) -> Answer
-    ensures { λ r. ⌜ JudgedPromise (now (words .entry)) handler code value (replyOf r) (now (words .exit)) ⌝ }
+    ensures { λ r. ⌜ JudgedPromise (now (words .entry)) handler code value (replyIs r) (now (words .exit)) ⌝ }
 {
     if !is_ledger(words) {
         return Answer::Refused(Refusal::NotWellFormed);
     }
-    let kind = steps::kind_of(code);
+    let kind = checks::kind_of(code);
     let opened = is_open(words, handler);
-    let verdict = steps::verdict_of(words[0] as usize, words[1], handler, kind, opened);
+    let verdict = checks::verdict_of(
+        words[places::CELLS] as usize,
+        words[places::HANDLERS],
+        handler,
+        kind,
+        opened,
+    );
     match verdict {
         Verdict::Refuses(refusal) => Answer::Refused(refusal),
         Verdict::Passes => pass(words, handler, code, kind, value),
@@ -64,13 +70,14 @@ pub fn cell_end(words: &[u32], c: u32) -> End
     if !is_ledger(words) {
         return End::Missing;
     }
-    if words[0] <= c {
+    if words[places::CELLS] <= c {
         return End::Missing;
     }
     let x = c as usize;
-    let count = words[2] as usize;
+    let count = words[places::COMMITS_NOTED] as usize;
+    let version = answers::present_version(words, x, count);
     End::Cell {
         value: answers::present_value(words, x, count),
-        number: answers::versions_of(words, x, count),
+        number: version.number,
     }
 }

@@ -2,25 +2,25 @@
 ghost use mathlib.Core.Path.{_≡_};
 ghost use mathlib.Core.Bool.{_&&_};
 ghost use lib.Dec.{leb};
-ghost use Rattle.rules.specs.Codes.{Step, known};
+ghost use Rattle.rules.specs.steps.Codes.{Step, known};
 ghost use Rattle.ledger.specs.Entries.{Ledger, isLedger, commitsNoted, mostCommits};
 ghost use Rattle.ledger.specs.Histories.{historyIn};
 ghost use Rattle.ledger.specs.Promises.{isCommit};
-ghost use Rattle.steps.specs.Meaning.{kindIs};
-ghost use Rattle.judge.specs.Taking.{Ready, answerOf};
-use steps::Kind;
+ghost use Rattle.checks.specs.Meaning.{kindIs};
+ghost use Rattle.judge.specs.Taking.{JudgeReady, answerOf};
+use checks::Kind;
 
 // Whether the words are a ledger.
 pub fn is_ledger(words: &[u32]) -> bool
     ensures { λ r. ⌜ r ≡ isLedger (now (words .entry)) ⌝ }
 {
-    if words.len() < 5346 {
+    if words.len() < limits::LEDGER_WORDS {
         return false;
     }
-    if !formed::in_range(words[0], words[1]) {
+    if !limits::in_range(words[places::CELLS], words[places::HANDLERS]) {
         return false;
     }
-    words[2] <= 64
+    words[places::COMMITS_NOTED] <= limits::MOST_COMMITS
 }
 
 // Whether a handler's transaction is open; beyond the handlers none is.
@@ -28,25 +28,26 @@ pub fn is_open(words: &[u32], handler: u32) -> bool
     requires { ⌜ Ledger (now words) ⌝ }
     ensures { λ r. ⌜ r ≡ historyIn (now (words .entry)) .opened handler ⌝ }
 {
-    if words[1] <= handler {
+    if words[places::HANDLERS] <= handler {
         return false;
     }
     let i = handler as usize;
-    words[(1 + i) * 66] != 0
+    let at = places::row_at(places::handler_row(i));
+    words[at] != 0
 }
 
 // Whether a step that no check refuses would be one commit more than are noted.
 pub fn is_too_many(words: &[u32], m: usize, i: usize, kind: Kind) -> bool
-    requires { ⌜ ((s : Step) × (kindIs kind ≡ known s) × Ready (now words) m i s) ⌝ }
+    requires { ⌜ ((s : Step) × (kindIs kind ≡ known s) × JudgeReady (now words) m i s) ⌝ }
     ensures { λ r. ⌜ ((s : Step) → kindIs kind ≡ known s
         → r ≡ (leb mostCommits (commitsNoted (now (words .entry))) && isCommit (answerOf (now (words .entry)) i s))) ⌝ }
 {
-    let count = words[2] as usize;
-    if count < 64 {
+    let count = words[places::COMMITS_NOTED] as usize;
+    if count < limits::COMMIT_TABLE {
         return false;
     }
     match kind {
-        Kind::Try => !answers::is_stale(words, m, 1 + i, count),
+        Kind::Try => !answers::is_stale(words, m, places::handler_row(i), count),
         Kind::Begin => false,
         Kind::Read(_) => false,
         Kind::Write(_) => false,

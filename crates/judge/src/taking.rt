@@ -1,29 +1,30 @@
 // A step that no check refuses: a 65th commit is refused, and everything else is answered and noted.
 ghost use mathlib.Core.Path.{_≡_};
 ghost use Prim.Native.Nat.{ℕ};
-ghost use Rattle.rules.specs.Codes.{Step, known, try, read};
+ghost use Rattle.rules.specs.steps.Codes.{Step, known, try, read};
 ghost use Rattle.layout.specs.Places.{cellsOf};
-ghost use Rattle.replies.specs.Meaning.{outcomeOf, replyOf};
-ghost use Rattle.steps.specs.Meaning.{kindIs};
-ghost use Rattle.judge.specs.Taking.{Ready, Able, Takes, Passes};
+ghost use Rattle.replies.specs.Meaning.{outcomeIs, replyIs};
+ghost use Rattle.checks.specs.Meaning.{kindIs};
+ghost use Rattle.judge.specs.Taking.{JudgeReady, Able, TakesNoted, Passes};
 use crate::reading::is_too_many;
+use checks::Kind;
 use replies::Answer;
 use replies::Outcome;
 use replies::Reason;
 use replies::Refusal;
 use replies::Report;
-use steps::Kind;
 
 // A read of the cell x: its copy, or abort 1, or the value of its present version.
 fn read(words: &mut [u32], m: usize, i: usize, x: usize) -> Outcome
-    requires { ⌜ Ready (now words) m i (read x) ⌝ }
-    ensures { λ r. ⌜ ((v : ℕ) → Takes (now (words .entry)) i (read x) v (outcomeOf r) (now (words .exit))) ⌝ }
+    requires { ⌜ JudgeReady (now words) m i (read x) ⌝ }
+    ensures { λ r. ⌜ ((v : ℕ) → TakesNoted (now (words .entry)) i (read x) v (outcomeIs r) (now (words .exit))) ⌝ }
 {
-    let row = 1 + i;
+    let row = places::handler_row(i);
     if answers::has_copy(words, row, x) {
-        return Outcome::Value(words[row * 66 + (34 + x)]);
+        let at = places::copy_at(row, x);
+        return Outcome::Value(words[at]);
     }
-    let count = words[2] as usize;
+    let count = words[places::COMMITS_NOTED] as usize;
     let place = answers::writer_of(words, x, count);
     if answers::tears(words, m, row, count, place) {
         noting::empty_row(words, row, 0);
@@ -37,10 +38,11 @@ fn read(words: &mut [u32], m: usize, i: usize, x: usize) -> Outcome
 // A try: abort 2, or commit.
 fn attempt(words: &mut [u32], m: usize, i: usize) -> Outcome
     requires { ⌜ Able (now words) m i try ⌝ }
-    ensures { λ r. ⌜ ((v : ℕ) → Takes (now (words .entry)) i try v (outcomeOf r) (now (words .exit))) ⌝ }
+    ensures { λ r. ⌜ ((v : ℕ) → TakesNoted (now (words .entry)) i try v (outcomeIs r) (now (words .exit))) ⌝ }
 {
-    if answers::is_stale(words, m, 1 + i, words[2] as usize) {
-        noting::empty_row(words, 1 + i, 0);
+    let row = places::handler_row(i);
+    if answers::is_stale(words, m, row, words[places::COMMITS_NOTED] as usize) {
+        noting::empty_row(words, row, 0);
         return Outcome::Aborted(Reason::Overtaken);
     }
     noting::note_commit(words, i);
@@ -50,17 +52,17 @@ fn attempt(words: &mut [u32], m: usize, i: usize) -> Outcome
 // Takes the step, and notes what it comes to. A code that stands for no step is never asked for here.
 fn take(words: &mut [u32], m: usize, i: usize, kind: Kind, value: u32) -> Outcome
     requires { ⌜ ((s : Step) × (kindIs kind ≡ known s) × Able (now words) m i s) ⌝ }
-    ensures { λ r. ⌜ ((s : Step) → kindIs kind ≡ known s → Takes (now (words .entry)) i s value (outcomeOf r) (now (words .exit))) ⌝ }
+    ensures { λ r. ⌜ ((s : Step) → kindIs kind ≡ known s → TakesNoted (now (words .entry)) i s value (outcomeIs r) (now (words .exit))) ⌝ }
 {
     match kind {
         Kind::Begin => {
-            noting::empty_row(words, 1 + i, 1);
+            noting::empty_row(words, places::handler_row(i), 1);
             Outcome::Done
         }
         Kind::Try => attempt(words, m, i),
         Kind::Read(x) => read(words, m, i, x),
         Kind::Write(x) => {
-            noting::note_write(words, 1 + i, x, value);
+            noting::note_write(words, places::handler_row(i), x, value);
             Outcome::Done
         }
         Kind::Unknown => Outcome::Done,
@@ -69,11 +71,11 @@ fn take(words: &mut [u32], m: usize, i: usize, kind: Kind, value: u32) -> Outcom
 
 // Takes a step that no check refuses, unless it would be a 65th commit.
 pub fn pass(words: &mut [u32], handler: u32, code: u32, kind: Kind, value: u32) -> Answer
-    requires { ⌜ ((s : Step) × (kindIs kind ≡ known s) × Ready (now words) (cellsOf (now words)) handler s) ⌝ }
+    requires { ⌜ ((s : Step) × (kindIs kind ≡ known s) × JudgeReady (now words) (cellsOf (now words)) handler s) ⌝ }
     ensures { λ r. ⌜ ((s : Step) → kindIs kind ≡ known s
-        → Passes (now (words .entry)) handler code s value (replyOf r) (now (words .exit))) ⌝ }
+        → Passes (now (words .entry)) handler code s value (replyIs r) (now (words .exit))) ⌝ }
 {
-    let m = words[0] as usize;
+    let m = words[places::CELLS] as usize;
     let i = handler as usize;
     if is_too_many(words, m, i, kind) {
         return Answer::Refused(Refusal::TooManyCommits);

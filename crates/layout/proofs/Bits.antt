@@ -10,9 +10,9 @@ use native.Mathlib.Numerals.{one-add}
 use lib.Dec.{eqb, eqb·suc-suc, eqb·zero-suc, eqb·suc-zero}
 use lib.Pow.{shr-shr, pow-mono, shl-exact}
 use borrow.Author.Tests.{eq-eqb, ne-eqb, eqb-true, eqb-false}
-use Rattle.rules.specs.Tables.{if_then_else_, put}
-use Rattle.rules.specs.Register.{noCells}
-use Rattle.rules.proofs.Tables.{by, put-same, put-beyond}
+use Rattle.rules.specs.steps.Tables.{if_then_else_, put}
+use Rattle.rules.specs.steps.Register.{noCells}
+use Rattle.rules.proofs.steps.Tables.{by, put-same, put-beyond}
 use Rattle.layout.specs.Bits.{bit, hasBit, mask}
 use Rattle.layout.specs.WellFormed.{NoBitFrom}
 

@@ -5,19 +5,18 @@ use mathlib.Core.Path.{_≡_, refl, sym, ap, ap₂, _∙_}
 use mathlib.Core.Bool.{Bool, false}
 use mathlib.Core.List.{List, [], _∷_, _++_}
 use native.Mathlib.Omega.{arith}
-use lib.Dec.{eqb}
 use lib.ListN.{length, getD, drop, length-append}
 use lib.Seq.{drop-cons, getD-append-add}
-use Rattle.rules.specs.Register.{Cell, Handler}
-use Rattle.rules.proofs.Tables.{SameFrom}
-use Rattle.rules.proofs.Confined.{ConfinedHandler}
-use Rattle.layout.specs.Bits.{bit, hasBit, mask}
+use Rattle.rules.specs.steps.Register.{Cell, Handler}
+use Rattle.rules.proofs.steps.Tables.{SameFrom}
+use Rattle.rules.proofs.steps.Confined.{ConfinedHandler}
+use Rattle.layout.specs.Bits.{hasBit, mask}
 use Rattle.layout.specs.Rows.{row, below}
 use Rattle.layout.specs.Places.{cellLong, handlerLong, valueIn, numberIn, phaseIn, readSetIn, writtenSetIn, handlerNumberIn}
 use Rattle.layout.specs.Places.{transactionNumberIn, copyIn}
 use Rattle.layout.specs.View.{wordSetting, viewCell, viewHandler, pourCell, pourHandler}
 use Rattle.layout.specs.WellFormed.{NoBitFrom, GoodBlock}
-use Rattle.layout.proofs.Bits.{bit-again, bit-of-word, has-mask, mask-has, no-bit-from}
+use Rattle.layout.proofs.Bits.{has-mask, mask-has, no-bit-from}
 use Rattle.layout.proofs.Rows.{row-length, row-at, row-first, row-behind, row-cut, row-last, below-inside, below-is, below-beyond}
 
 -- The words hold the cell.
@@ -29,7 +28,7 @@ pub record HoldsCell (m : ℕ) (c : Cell ℕ) (cell : List ℕ) : Type 0 where
 -- The block holds the handler.
 pub record HoldsHandler (m : ℕ) (h : Handler ℕ) (block : List ℕ) : Type 0 where
   pub size : length block ≡ handlerLong m
-  pub phase : phaseIn block ≡ bit (h .opened)
+  pub phase : phaseIn block ≡ h .phase
   pub readSet : readSetIn block ≡ mask m (h .readSet)
   pub writtenSet : writtenSetIn block ≡ mask m (h .writtenSet)
   pub numbers : (y : ℕ) → y < m → handlerNumberIn block y ≡ h .numbers y
@@ -90,7 +89,7 @@ poured-handler m h = record {
 }
   where
     head : List ℕ
-    head = bit (h .opened) ∷ mask m (h .readSet) ∷ mask m (h .writtenSet) ∷ []
+    head = h .phase ∷ mask m (h .readSet) ∷ mask m (h .writtenSet) ∷ []
 
     vectors : List ℕ
     vectors = row m (h .numbers) ++ (row m (h .transaction) ++ row m (h .copies))
@@ -118,16 +117,13 @@ pub view-handler-is : (m : ℕ) (h : Handler ℕ) (block : List ℕ) → Confine
     → viewHandler m block ≡ h
 unfolding viewHandler
 view-handler-is m h block confined holds = λ i. record {
-  opened = phase i;
+  phase = holds .phase i;
   readSet = set-is m (readSetIn block) (h .readSet) (holds .readSet) (confined .readSet) i;
   writtenSet = set-is m (writtenSetIn block) (h .writtenSet) (holds .writtenSet) (confined .writtenSet) i;
   numbers = below-is m 0 (handlerNumberIn block) (h .numbers) (holds .numbers) (confined .numbers) i;
   transaction = below-is m 0 (transactionNumberIn m block) (h .transaction) (holds .transaction) (confined .transaction) i;
   copies = below-is m 0 (copyIn m block) (h .copies) (holds .copies) (confined .copies) i;
 }
-  where
-    phase : eqb (phaseIn block) 1 ≡ h .opened
-    phase = ap (λ (word : ℕ). eqb word 1) (holds .phase) ∙ bit-again (h .opened)
 
 -- Words of a cell's length hold what they say.
 pub viewed-cell : (m : ℕ) (cell : List ℕ) → length cell ≡ cellLong m → HoldsCell m (viewCell m cell) cell
@@ -150,7 +146,7 @@ pub viewed-handler : (m : ℕ) (block : List ℕ) → length block ≡ handlerLo
 unfolding viewHandler
 viewed-handler m block size good = record {
   size = size;
-  phase = sym (bit-of-word (phaseIn block) (good .phase));
+  phase = refl;
   readSet = set-held m (readSetIn block) (good .readSet);
   writtenSet = set-held m (writtenSetIn block) (good .writtenSet);
   numbers = λ y h. sym (below-inside m 0 (handlerNumberIn block) y h);

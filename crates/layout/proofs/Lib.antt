@@ -8,5 +8,6 @@ pub mod Holds
 pub mod ViewPour
 pub mod PourView
 pub mod Untouched
+pub mod Fronts
 pub mod OneHandler
 pub mod Kept

@@ -4,11 +4,12 @@ use Prim.Native.Nat.{ℕ, _+_, _≤_, _<_}
 use mathlib.Core.Path.{_≡_, sym, _∙_, subst}
 use mathlib.Core.List.{List, [], _++_, append-nil}
 use native.Mathlib.Omega.{arith}
+use native.Mathlib.Nat.{zero-add}
 use lib.ListN.{length, take, drop}
-use Rattle.rules.specs.Tables.{put}
-use Rattle.rules.specs.Register.{Cell, Handler, Register, withHandler}
-use Rattle.rules.proofs.Tables.{put-map}
-use Rattle.layout.specs.Places.{cellLong, handlerLong, size, cellStart, handlerStart, cellPart, handlerPart}
+use Rattle.rules.specs.steps.Tables.{put}
+use Rattle.rules.specs.steps.Register.{Cell, Handler, Register, withHandler}
+use Rattle.rules.proofs.steps.Tables.{put-map}
+use Rattle.layout.specs.Places.{cellLong, handlerLong, bodyLong, cellStart, handlerStart, cellPart, handlerPart}
 use Rattle.layout.specs.View.{pourCell, pourHandler, pour}
 use Rattle.layout.proofs.Places.{handlersStart, cell-ends, cell-fits, handler-fits}
 use Rattle.layout.proofs.Blocks.{poured-cell, poured-handler}
@@ -21,18 +22,16 @@ abbrev pub withCell : Register ℕ → ℕ → Cell ℕ → Register ℕ
 withCell r c cell = record { cells = put (r .cells) c cell; handlers = r .handlers }
 
 module _ {m n : ℕ} {r : Register ℕ} {rest words after : List ℕ} (holds : Holds m n r rest words) where
-  -- Words that are the same but for a part of the register behind m and n hold whatever register their cells and blocks do.
-  pub part-changed : {from long : ℕ} (other : Register ℕ) → 2 ≤ from → from + long ≤ size m n → Untouched from long words after
+  -- Words that are the same but for a part of the body hold whatever register their cells and blocks do.
+  pub part-changed : {from long : ℕ} (other : Register ℕ) → from + long ≤ bodyLong m n → Untouched from long words after
       → ((c : ℕ) → c < m → cellPart m after c ≡ pourCell m (other .cells c))
       → ((i : ℕ) → i < n → handlerPart m after i ≡ pourHandler m (other .handlers i))
       → Holds m n other rest after
-  part-changed other starts ends same cells handlers = record {
+  part-changed other ends same cells handlers = record {
     fits = omega (arith, holds .fits, same .size);
-    cellCount = same .below 0 (omega arith) ∙ holds .cellCount;
-    handlerCount = same .below 1 (omega arith) ∙ holds .handlerCount;
     cells = cells;
     handlers = handlers;
-    beyond = drop-after same (size m n) ends ∙ holds .beyond;
+    beyond = drop-after same (bodyLong m n) ends ∙ holds .beyond;
   }
 
   -- Words with another block for handler i hold the register with that handler.
@@ -40,7 +39,7 @@ module _ {m n : ℕ} {r : Register ℕ} {rest words after : List ℕ} (holds : H
       → handlerPart m after i ≡ pourHandler m h → Holds m n (withHandler r i h) rest after
   unfolding withHandler
   handler-changed i h inside same here =
-      part-changed (withHandler r i h) (omega arith) (handler-fits m n i inside) same cells handlers
+      part-changed (withHandler r i h) (handler-fits m n i inside) same cells handlers
     where
       cells : (c : ℕ) → c < m → cellPart m after c ≡ pourCell m (r .cells c)
       cells c l = part-before same (cellStart m c) (cellLong m) (omega (arith, cell-ends m c l)) ∙ holds .cells c l
@@ -54,11 +53,11 @@ module _ {m n : ℕ} {r : Register ℕ} {rest words after : List ℕ} (holds : H
   pub cell-changed : (c : ℕ) (cell : Cell ℕ) → c < m → Untouched (cellStart m c) (cellLong m) words after
       → cellPart m after c ≡ pourCell m cell → Holds m n (withCell r c cell) rest after
   cell-changed c cell inside same here =
-      part-changed (withCell r c cell) (omega arith) (cell-fits m n c inside) same cells handlers
+      part-changed (withCell r c cell) (cell-fits m n c inside) same cells handlers
     where
       cells : (x : ℕ) → x < m → cellPart m after x ≡ pourCell m (put (r .cells) c cell x)
       cells x l =
-          rows-changed 2 m (cellLong m) _ c _ words after same here (holds .cells) x l
+          (simp zero-add at (rows-changed 0 m (cellLong m) (λ k. pourCell m (r .cells k)) c (pourCell m cell) words after)) same here (holds .cells) x l
           ∙ sym (put-map (pourCell m) (r .cells) c cell x)
 
       handlers : (i : ℕ) → i < n → handlerPart m after i ≡ pourHandler m (r .handlers i)

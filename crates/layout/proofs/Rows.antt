@@ -10,7 +10,7 @@ use lib.Dec.{eqb, ltb}
 use lib.ListN.{length, getD, take, drop, length-append, length-take, length-drop, take-append-drop, drop-of-length-le, List·getD-append}
 use lib.Seq.{ext-getD, getD-take, getD-drop, drop-drop, getD-append-add, take-at, drop-at}
 use borrow.Author.Tests.{ltb-true, ltb-false, lt-ltb, le-ltb, eqb-true, eqb-false}
-use Rattle.rules.proofs.Tables.{by, SameFrom}
+use Rattle.rules.proofs.steps.Tables.{by, SameFrom}
 use Rattle.layout.specs.Rows.{row, rows, part, below}
 
 -- ── Parts ─────────────────────────────────────────────────────────────

@@ -8,8 +8,8 @@ use lib.Dec.{ltb}
 use lib.ListN.{length, getD, take, drop, length-append, length-take, length-drop, take-append-drop, List·getD-append}
 use lib.Seq.{ext-getD, getD-take, getD-drop, drop-drop, take-at, drop-at}
 use borrow.Author.Tests.{ltb-true, ltb-false}
-use Rattle.rules.specs.Tables.{put}
-use Rattle.rules.proofs.Tables.{by, put-each}
+use Rattle.rules.specs.steps.Tables.{put}
+use Rattle.rules.proofs.steps.Tables.{by, put-each}
 use Rattle.layout.specs.Rows.{part, splice}
 use Rattle.layout.proofs.Rows.{part-length, part-at, part-is, part-cut, rows-apart}
 

@@ -3,9 +3,9 @@
 use Prim.Native.Nat.{ℕ, _<_}
 use mathlib.Core.Path.{_≡_, refl, ap, _∙_}
 use mathlib.Core.List.{List, _++_}
-use Rattle.rules.specs.Register.{Register, Cell, zeros, idle, blank}
-use Rattle.rules.proofs.Tables.{SameFrom}
-use Rattle.rules.proofs.Confined.{ConfinedHandler, Confined, idle-confined}
+use Rattle.rules.specs.steps.Register.{Register, Cell, zeros, idle, blank}
+use Rattle.rules.proofs.steps.Tables.{SameFrom}
+use Rattle.rules.proofs.steps.Confined.{ConfinedHandler, Confined, idle-confined}
 use Rattle.layout.specs.Places.{cellPart, handlerPart}
 use Rattle.layout.specs.View.{wordSetting, viewCell, viewHandler, view, pour}
 use Rattle.layout.proofs.Rows.{below-inside, below-beyond, below-each, below-is}

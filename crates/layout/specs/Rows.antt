@@ -3,7 +3,7 @@ use Prim.Native.Nat.{ℕ, zero, suc, _+_}
 use mathlib.Core.List.{List, [], _∷_, _++_}
 use lib.ListN.{take, drop}
 use lib.Dec.{ltb}
-use Rattle.rules.specs.Tables.{if_then_else_}
+use Rattle.rules.specs.steps.Tables.{if_then_else_}
 
 -- The first m entries of a table, in order.
 unfoldable pub row : ℕ → (ℕ → ℕ) → List ℕ

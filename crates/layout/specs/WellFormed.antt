@@ -6,12 +6,12 @@ use mathlib.Core.Bool.{Bool, false, not, _&&_}
 use mathlib.Core.List.{List}
 use lib.ListN.{length}
 use lib.Dec.{leb, ltb}
-use Rattle.rules.specs.Tables.{someBelow}
-use Rattle.rules.specs.Checks.{inRange}
-use Rattle.rules.specs.Given.{InRange}
+use Rattle.rules.specs.steps.Tables.{someBelow}
+use Rattle.rules.specs.steps.Checks.{inRange}
+use Rattle.rules.specs.steps.Given.{InRange}
 use Rattle.layout.specs.Bits.{hasBit}
-use Rattle.layout.specs.Places.{cellsOf, handlersOf, size, cellPart, handlerPart, numberIn, phaseIn, readSetIn, writtenSetIn}
-use Rattle.layout.specs.Places.{handlerNumberIn, transactionNumberIn}
+use Rattle.layout.specs.Places.{cellsOf, handlersOf, bodyLong, bodyOf, cellPart, handlerPart, numberIn, phaseIn, readSetIn}
+use Rattle.layout.specs.Places.{writtenSetIn, handlerNumberIn, transactionNumberIn}
 
 -- No bit of the word is set at m or above.
 abbrev pub NoBitFrom : ℕ → ℕ → Type 0
@@ -19,19 +19,27 @@ NoBitFrom m word = (c : ℕ) → m ≤ c → hasBit word c ≡ false
 
 -- A handler's block that a well-formed register can hold.
 pub record GoodBlock (m : ℕ) (block : List ℕ) : Type 0 where
-  pub phase : phaseIn block ≤ 1
   pub readSet : NoBitFrom m (readSetIn block)
   pub writtenSet : NoBitFrom m (writtenSetIn block)
   pub numbers : (y : ℕ) → y < m → handlerNumberIn block y ≤ 65535
   pub transaction : (y : ℕ) → y < m → transactionNumberIn m block y ≤ 65535
 
--- Well formed: m and n in range, the buffer long enough, phases 0 or 1, no set bit at m or above, every number of a cell, a
--- handler or a transaction at most 65,535.
+-- A body of m cells and n handlers that a well-formed register can hold: the buffer long enough, no set bit at m or above, every
+-- number of a cell, a handler or a transaction at most 65,535.
+pub record GoodBody (m n : ℕ) (body : List ℕ) : Type 0 where
+  pub long : bodyLong m n ≤ length body
+  pub numbers : (c : ℕ) → c < m → (y : ℕ) → y < m → numberIn (cellPart m body c) y ≤ 65535
+  pub blocks : (i : ℕ) → i < n → GoodBlock m (handlerPart m body i)
+
+-- No phase lies above the last one.
+abbrev pub PhasesTo : ℕ → ℕ → ℕ → List ℕ → Type 0
+PhasesTo last m n body = (i : ℕ) → i < n → phaseIn (handlerPart m body i) ≤ last
+
+-- Well formed: m and n in range, a good body, and phases 0 or 1.
 pub record WellFormed (words : List ℕ) : Type 0 where
   pub range : InRange (cellsOf words) (handlersOf words)
-  pub long : size (cellsOf words) (handlersOf words) ≤ length words
-  pub numbers : (c : ℕ) → c < cellsOf words → (y : ℕ) → y < cellsOf words → numberIn (cellPart (cellsOf words) words c) y ≤ 65535
-  pub blocks : (i : ℕ) → i < handlersOf words → GoodBlock (cellsOf words) (handlerPart (cellsOf words) words i)
+  pub body : GoodBody (cellsOf words) (handlersOf words) (bodyOf words)
+  pub phases : PhasesTo 1 (cellsOf words) (handlersOf words) (bodyOf words)
 
 -- ── The test ──────────────────────────────────────────────────────────
 
@@ -46,17 +54,17 @@ numbersFit m numbers = everyBelow m (λ y. leb (numbers y) 65535)
 -- The block is good.
 unfoldable pub isGoodBlock : ℕ → List ℕ → Bool
 isGoodBlock m block =
-    leb (phaseIn block) 1 && (ltb (readSetIn block) (2 ^ m) && (ltb (writtenSetIn block) (2 ^ m)
-    && (numbersFit m (handlerNumberIn block) && numbersFit m (transactionNumberIn m block))))
+    ltb (readSetIn block) (2 ^ m) && (ltb (writtenSetIn block) (2 ^ m)
+    && (numbersFit m (handlerNumberIn block) && numbersFit m (transactionNumberIn m block)))
 
--- The words are a register of m cells and n handlers. Cells and handlers are looked at only where m and n are in range.
-unfoldable pub isRegister : ℕ → ℕ → List ℕ → Bool
-isRegister m n words =
-    let cellsGood = everyBelow m (λ c. numbersFit m (numberIn (cellPart m words c))) in
-    let blocksGood = everyBelow n (λ i. isGoodBlock m (handlerPart m words i)) in
-    let restGood = leb (size m n) (length words) && (cellsGood && blocksGood) in
-    inRange m n && restGood
+-- The body of m cells and n handlers is good, and no phase lies above the last one.
+unfoldable pub isGoodBody : ℕ → ℕ → ℕ → List ℕ → Bool
+isGoodBody last m n body =
+    let cellsGood = everyBelow m (λ c. numbersFit m (numberIn (cellPart m body c))) in
+    let blocksGood = everyBelow n (λ i. isGoodBlock m (handlerPart m body i) && leb (phaseIn (handlerPart m body i)) last) in
+    leb (bodyLong m n) (length body) && (cellsGood && blocksGood)
 
--- The words are well formed.
+-- The words are well formed. Cells and handlers are looked at only where m and n are in range.
 unfoldable pub isWellFormed : List ℕ → Bool
-isWellFormed words = isRegister (cellsOf words) (handlersOf words) words
+isWellFormed words =
+    inRange (cellsOf words) (handlersOf words) && isGoodBody 1 (cellsOf words) (handlersOf words) (bodyOf words)

@@ -7,13 +7,13 @@ use mathlib.Core.Bool.{Bool, true, false, _&&_, _||_, and-true}
 use mathlib.Core.List.{List}
 use lib.Dec.{eqb, ltb}
 use borrow.Author.Tests.{ltb-true, lt-ltb, le-ltb, eqb-true, eqb-false, eq-eqb, ne-eqb}
-use Rattle.rules.specs.Tables.{if_then_else_, put, lowest, someBelow}
-use Rattle.rules.specs.Register.{Setting}
-use Rattle.rules.specs.History.{Deed, someLook, hasRead, hasWritten}
-use Rattle.rules.specs.Replay.{after}
-use Rattle.rules.specs.Judge.{copied}
-use Rattle.rules.proofs.Tables.{by, same-test}
-use Rattle.rules.proofs.Searches.{some-only, some-next}
+use Rattle.rules.specs.steps.Tables.{if_then_else_, put, lowest, someBelow}
+use Rattle.rules.specs.steps.Register.{Setting}
+use Rattle.rules.specs.history.History.{Deed, someLook, hasRead, hasWritten}
+use Rattle.rules.specs.history.Replay.{after}
+use Rattle.rules.specs.demand.Judge.{copied}
+use Rattle.rules.proofs.steps.Tables.{by, same-test}
+use Rattle.rules.proofs.steps.Searches.{some-only, some-next}
 use Rattle.ledger.specs.Entries.{Entry}
 use Rattle.ledger.specs.Histories.{lookOf, setOf, deedsOf}
 

@@ -9,21 +9,20 @@ use mathlib.Core.Logic.{_↔_, _⊎_, inl, inr}
 use lib.Dec.{leb}
 use lib.ListN.{length}
 use borrow.Author.Tests.{leb-true}
-use Rattle.rules.specs.Codes.{kindOf}
-use Rattle.rules.specs.Replies.{overtaken, spent, Outcome, committed, aborted, Report, Reply, reported, Opening}
-use Rattle.rules.specs.Replies.{Refusal, notWellFormed, noHandler, noCell, alreadyOpen, notOpen, unknownStep}
-use Rattle.rules.specs.Replies.{outOfRange, tooShort, badFile, usedUp, tooManyCommits}
-use Rattle.rules.specs.Checks.{Asked}
-use Rattle.rules.specs.Given.{OpeningGiven}
-use Rattle.rules.specs.Demand.{reportedTo}
-use Rattle.rules.specs.Judge.{askedByHistory}
-use Rattle.rules.proofs.Tables.{by, and-left, and-right, both-ways}
-use Rattle.rules.proofs.Given.{Verdict, verdict}
-use Rattle.rules.proofs.Turns.{refused-exactly}
-use Rattle.rules.proofs.Judged.{judged-refused, judged-free}
-use Rattle.rules.proofs.Properties.{ok-no-abort}
-use Rattle.rules.proofs.ExactAborts.{outcomeIn}
-use Rattle.rules.proofs.NeverSpent.{never-spent}
+use Rattle.rules.specs.steps.Codes.{plainSheet}
+use Rattle.rules.specs.steps.Replies.{overtaken, spent, Outcome, committed, aborted, Report, Reply, reported, Opening}
+use Rattle.rules.specs.steps.Replies.{Refusal, notWellFormed, tooManyCommits}
+use Rattle.rules.specs.steps.Checks.{Asked}
+use Rattle.rules.specs.steps.Given.{OpeningGiven}
+use Rattle.rules.specs.demand.Demand.{reportedTo}
+use Rattle.rules.specs.demand.Judge.{askedByHistory}
+use Rattle.rules.proofs.steps.Tables.{by, and-left, and-right, both-ways}
+use Rattle.rules.proofs.steps.Given.{Verdict, verdict}
+use Rattle.rules.proofs.steps.Turns.{refused-exactly}
+use Rattle.rules.proofs.demand.Judged.{judged-refused, judged-free}
+use Rattle.rules.proofs.steps.Properties.{ok-no-abort}
+use Rattle.rules.proofs.demand.ExactAborts.{outcomeIn}
+use Rattle.rules.proofs.demand.NeverSpent.{never-spent}
 use Rattle.layout.specs.Places.{cellsOf, handlersOf}
 use Rattle.layout.specs.View.{wordSetting}
 use Rattle.promises.proofs.Exactly.{opening-said, opening-given}
@@ -31,7 +30,7 @@ use Rattle.ledger.specs.Entries.{ledgerLong, mostCommits, commitsNoted, 
 use Rattle.ledger.specs.Histories.{historyIn}
 use Rattle.ledger.specs.Noting.{noteWords}
 use Rattle.ledger.specs.Promises.{ledgerRefusal, ledgerWords, LedgerPromise, isCommit, limited, judgedReply, JudgedPromise}
-use Rattle.ledger.specs.Given.{toldBy, RulesGive, JudgeGiven}
+use Rattle.ledger.specs.Given.{toldBy, JudgeGiven, noLedger, byRules, noRoom}
 use Rattle.ledger.proofs.Tested.{tested}
 use Rattle.ledger.proofs.Commits.{commits-count}
 use Rattle.ledger.proofs.Steps.{limited-other, refusal-unnoted, reply-limited, reply-cases}
@@ -40,7 +39,7 @@ use Rattle.ledger.proofs.Steps.{limited-other, refusal-unnoted, reply-l
 
 module _ {words : List ℕ} {m n : ℕ} {reply : Opening} {after : List ℕ} (p : LedgerPromise words m n reply after) where
   -- An opening is refused with each number exactly then.
-  pub ledger-refused : (refusal : Refusal) → (reply ≡ Opening.refused refusal) ↔ OpeningGiven refusal m n (length words) ledgerLong
+  pub ledger-refused : (refusal : Refusal) → (reply ≡ Opening.refused refusal) ↔ OpeningGiven m n (length words) ledgerLong refusal
   unfolding ledgerRefusal
   ledger-refused = opening-given m n (length words) ledgerLong (p .replied)
 
@@ -63,51 +62,19 @@ module _ (words : List ℕ) (i code : ℕ) where
   abbrev asked : Asked
   asked = askedByHistory (wordSetting (cellsOf words)) (handlersOf words) (historyIn words) i code
 
-  -- Each refusal is 10, or 33, or given as the rules give it.
-  refusal-cases : (Q : Refusal → Type 0 → Type 0) → Q notWellFormed (JudgeGiven notWellFormed words i code)
-      → Q tooManyCommits (JudgeGiven tooManyCommits words i code) → ((refusal : Refusal) → Q refusal (RulesGive refusal words i code))
-      → (refusal : Refusal) → Q refusal (JudgeGiven refusal words i code)
-  refusal-cases Q ten last others notWellFormed = ten
-  refusal-cases Q ten last others noHandler = others noHandler
-  refusal-cases Q ten last others noCell = others noCell
-  refusal-cases Q ten last others alreadyOpen = others alreadyOpen
-  refusal-cases Q ten last others notOpen = others notOpen
-  refusal-cases Q ten last others unknownStep = others unknownStep
-  refusal-cases Q ten last others outOfRange = others outOfRange
-  refusal-cases Q ten last others tooShort = others tooShort
-  refusal-cases Q ten last others badFile = others badFile
-  refusal-cases Q ten last others usedUp = others usedUp
-  refusal-cases Q ten last others tooManyCommits = last
-
-  -- A refusal that the rules give to what is asked of a ledger, the judge gives.
-  rules-give : (refusal : Refusal) → RulesGive refusal words i code → JudgeGiven refusal words i code
-  rules-give = refusal-cases (λ refusal Gives. RulesGive refusal words i code → Gives)
-      (λ g. absurd (true≢false (g .1))) (λ g. absurd (g .1)) (λ refusal g. g)
-
-  -- Words that are no ledger are refused with 10,
-  no-ledger : JudgeGiven notWellFormed words i code → judgedReply words i code ≡ Reply.refused notWellFormed
-  unfolding judgedReply
-  no-ledger wrong = rw (by (isLedger words) (λ e. absurd (wrong (tested words .0 e))) (λ e. e))
-
-  -- one commit more than 64 is refused with 33,
-  too-many : JudgeGiven tooManyCommits words i code → judgedReply words i code ≡ Reply.refused tooManyCommits
-  unfolding limited
-  too-many (ledger, noted, told) = reply-limited ledger i code ∙ rw (noted, told)
-
-  -- and what the rules give is refused with their number.
-  others-refuse : (refusal : Refusal) → RulesGive refusal words i code → judgedReply words i code ≡ Reply.refused refusal
-  others-refuse refusal (ledger, given) =
+  -- A step that is given a number is refused with it: 10, the rules' numbers, and 33.
+  given-refuses : (refusal : Refusal) → JudgeGiven words i code refusal → judgedReply words i code ≡ Reply.refused refusal
+  unfolding judgedReply limited
+  given-refuses _ (noLedger wrong) = rw (by (isLedger words) (λ e. absurd (wrong (tested words .0 e))) (λ e. e))
+  given-refuses refusal (byRules ledger given) =
       reply-limited ledger i code
       ∙ ap (limited (commitsNoted words)) (judged-refused _ (handlersOf words) (historyIn words) i code refusal given)
       ∙ limited-other (commitsNoted words) (Reply.refused refusal) refl
-
-  -- So a step that is given a number is refused with it.
-  given-refuses : (refusal : Refusal) → JudgeGiven refusal words i code → judgedReply words i code ≡ Reply.refused refusal
-  given-refuses = refusal-cases (λ refusal Gives. Gives → judgedReply words i code ≡ Reply.refused refusal) no-ledger too-many others-refuse
+  given-refuses _ (noRoom ledger noted told) = reply-limited ledger i code ∙ rw (noted, told)
 
   -- The judge gives one refusal, or it reports.
   abbrev Decided : Type 0
-  Decided = ((refusal : Refusal) × JudgeGiven refusal words i code) ⊎ ((report : Report ℕ) × (judgedReply words i code ≡ reported report))
+  Decided = ((refusal : Refusal) × JudgeGiven words i code refusal) ⊎ ((report : Report ℕ) × (judgedReply words i code ≡ reported report))
 
   -- So it is where the history tells an outcome,
   outcome-decides : Ledger words → (outcome : Outcome ℕ) → toldBy words i code ≡ reportedTo i code outcome → Decided
@@ -115,34 +82,34 @@ module _ (words : List ℕ) (i code : ℕ) where
   outcome-decides ledger outcome told = by (leb mostCommits (commitsNoted words) && isCommit outcome)
       (λ e. let full = leb-true mostCommits (commitsNoted words) (and-left _ (isCommit outcome) e) in
       let commits = commit-only outcome (and-right (leb mostCommits (commitsNoted words)) (isCommit outcome) e) in
-      inl (tooManyCommits, (ledger, omega (arith, ledger .few, full), told ∙ ap (reportedTo i code) commits)))
+      inl (tooManyCommits, noRoom ledger (omega (arith, ledger .few, full)) (told ∙ ap (reportedTo i code) commits)))
       (λ e. let reports : judgedReply words i code ≡ reportedTo i code outcome = reply-limited ledger i code ∙ rw (told, e) in inr (_, reports))
 
   -- of each ledger,
   ledger-decides : Ledger words → Verdict asked → Decided
-  ledger-decides ledger (inl (refusal, given)) = inl (refusal, rules-give refusal (ledger, given))
+  ledger-decides ledger (inl (refusal, given)) = inl (refusal, byRules ledger given)
   ledger-decides ledger (inr (s, free)) = outcome-decides ledger _ (judged-free _ (handlersOf words) (historyIn words) i code s free)
 
   -- and of all words.
   decided : Decided
   decided = by (isLedger words)
       (λ e. ledger-decides (tested words .0 e) (verdict asked))
-      (λ e. inl (notWellFormed, λ ledger. both-ways (tested words .1 ledger) e))
+      (λ e. inl (notWellFormed, noLedger (λ ledger. both-ways (tested words .1 ledger) e)))
 
 module _ {words : List ℕ} {handler code value : ℕ} {reply : Reply ℕ} {after : List ℕ}
     (p : JudgedPromise words handler code value reply after) where
   -- A step is refused with each number exactly then.
-  pub judge-refused : (refusal : Refusal) → (reply ≡ Reply.refused refusal) ↔ JudgeGiven refusal words handler code
+  pub judge-refused : (refusal : Refusal) → (reply ≡ Reply.refused refusal) ↔ JudgeGiven words handler code refusal
   judge-refused refusal =
-      let given = refused-exactly (λ other. JudgeGiven other words handler code) (given-refuses words handler code)
+      let given = refused-exactly (JudgeGiven words handler code) (given-refuses words handler code)
       (decided words handler code) refusal in
       (λ e. given .0 (sym (p .replied) ∙ e), λ g. p .replied ∙ given .1 g)
 
   -- A refused step changes no word.
   pub judge-unchanged : (refusal : Refusal) → reply ≡ Reply.refused refusal → after ≡ words
   judge-unchanged refusal e =
-      p .left ∙ ap (noteWords words handler (kindOf code) value) (sym (p .replied) ∙ e)
-      ∙ refusal-unnoted words handler (kindOf code) value refusal
+      p .left ∙ ap (noteWords words handler (plainSheet code) value) (sym (p .replied) ∙ e)
+      ∙ refusal-unnoted words handler (plainSheet code) value refusal
 
 -- ── Aborts ────────────────────────────────────────────────────────────
 
@@ -157,7 +124,7 @@ never-three words i code e = by (isLedger words)
     (λ t. let ledger = tested words .0 t in
     reply-cases ledger i code (λ reply. outcomeIn reply ≡ aborted spent → ⊥) (λ refusal. ok-no-abort spent)
     (λ s free room. never-spent (wordSetting (cellsOf words)) (historyIn words) i s (short-history words ledger)) (ap outcomeIn e))
-    (λ t. let refused = no-ledger words i code (λ ledger. both-ways (tested words .1 ledger) t) in
+    (λ t. let refused = given-refuses words i code notWellFormed (noLedger (λ ledger. both-ways (tested words .1 ledger) t)) in
     ok-no-abort spent (ap outcomeIn (sym refused ∙ e)))
 
 module _ {words : List ℕ} (ledger : Ledger words) (i code : ℕ) where

@@ -6,11 +6,11 @@ use mathlib.Core.Bool.{Bool, false, not}
 use mathlib.Core.List.{List, [], _∷_}
 use lib.Dec.{eqb, ltb}
 use borrow.Author.Tests.{ltb-true}
-use Rattle.rules.specs.Tables.{put}
-use Rattle.rules.specs.Register.{Setting}
-use Rattle.rules.specs.History.{Deed, Commit, Abort, History}
-use Rattle.rules.proofs.Tables.{by, put-each}
-use Rattle.rules.proofs.Alike.{SameDeeds, SameCommits, SameHistory, deeds-refl, commits-refl}
+use Rattle.rules.specs.steps.Tables.{put}
+use Rattle.rules.specs.steps.Register.{Setting}
+use Rattle.rules.specs.history.History.{Deed, Commit, Abort, History}
+use Rattle.rules.proofs.steps.Tables.{by, put-each}
+use Rattle.rules.proofs.history.Alike.{SameDeeds, SameCommits, SameHistory, deeds-refl, commits-refl}
 use Rattle.layout.specs.Rows.{below}
 use Rattle.layout.specs.Places.{cellsOf, handlersOf}
 use Rattle.layout.specs.View.{wordSetting}
@@ -18,7 +18,7 @@ use Rattle.layout.proofs.Rows.{below-inside}
 use Rattle.ledger.specs.Entries.{Ledger, Entry, entryIn, commitsNoted, handlerRow, commitRow}
 use Rattle.ledger.specs.Histories.{lookOf, setOf, deedsOf, commitOf, commitsIn, isOpen, historyIn}
 use Rattle.ledger.specs.Noting.{emptyEntry, committedEntry}
-use Rattle.ledger.proofs.Noted.{SameAt}
+use Rattle.ledger.proofs.OneDeedMore.{SameAt}
 use Rattle.ledger.proofs.Entries.{SameEntry}
 
 -- Entries that say the same of the first m cells say the same deeds of them.

@@ -1,15 +1,14 @@
 -- The laws of the judge's words, in the order in which they are best read.
 pub mod Deeds
-pub mod Noted
+pub mod OneDeedMore
 pub mod Entries
 pub mod Tested
 pub mod Histories
 pub mod Commits
 pub mod Versions
-pub mod Notes
+pub mod Faithful
 pub mod Outcomes
 pub mod Steps
 pub mod Opened
-pub mod Tight
 pub mod Exactly
 pub mod Runs

@@ -7,12 +7,12 @@ use mathlib.Core.List.{List, [], _∷_, _++_}
 use mathlib.Core.Option.{none}
 use lib.Dec.{eqb}
 use lib.ListN.{length, getD, drop, length-append}
-use Rattle.rules.specs.Replies.{ready}
-use Rattle.rules.specs.Register.{noCells, zeros}
-use Rattle.rules.specs.Given.{InRange}
-use Rattle.rules.specs.History.{noHistory}
-use Rattle.rules.proofs.Given.{range-tested}
-use Rattle.rules.proofs.Alike.{SameHistory}
+use Rattle.rules.specs.steps.Replies.{ready}
+use Rattle.rules.specs.steps.Register.{noCells, zeros}
+use Rattle.rules.specs.steps.Given.{InRange}
+use Rattle.rules.specs.history.History.{noHistory}
+use Rattle.rules.proofs.steps.Given.{range-tested}
+use Rattle.rules.proofs.history.Alike.{SameHistory}
 use Rattle.layout.specs.Bits.{hasBit}
 use Rattle.layout.specs.Rows.{row}
 use Rattle.layout.specs.View.{wordSetting}

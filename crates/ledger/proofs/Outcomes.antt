@@ -4,17 +4,17 @@ use native.Mathlib.Omega.{arith}
 use mathlib.Core.Path.{_≡_, refl, sym, ap, _∙_, subst}
 use mathlib.Core.Bool.{true, false, _||_}
 use mathlib.Core.List.{List, [], _∷_}
-use Rattle.rules.specs.Codes.{Step, begin, try, read, write}
-use Rattle.rules.specs.Replies.{Outcome, ok, value, committed, aborted}
-use Rattle.rules.specs.Register.{Setting}
-use Rattle.rules.specs.Given.{Within, phaseFor}
-use Rattle.rules.specs.History.{Deed, look, again, set, History, someLook, hasRead, hasWritten, writer, doing, readDeed}
-use Rattle.rules.specs.History.{note, noteOk, noteValue, ended}
-use Rattle.rules.specs.History as Rules
-use Rattle.rules.specs.Replay.{after}
-use Rattle.rules.specs.Judge.{copied}
-use Rattle.rules.proofs.Tables.{by, both-ways, put-each, put-same, or-left, or-right}
-use Rattle.rules.proofs.Alike.{SameDeeds, SameHistory, deeds-refl, commits-refl, history-refl}
+use Rattle.rules.specs.steps.Codes.{Step, begin, try, read, write}
+use Rattle.rules.specs.steps.Replies.{Outcome, ok, value, committed, aborted}
+use Rattle.rules.specs.steps.Register.{Setting}
+use Rattle.rules.specs.steps.Given.{Within, phaseFor}
+use Rattle.rules.specs.history.History.{Deed, look, again, set, History, someLook, hasRead, hasWritten, writer, doing, readDeed}
+use Rattle.rules.specs.history.History.{note, noteOk, noteValue, ended}
+use Rattle.rules.specs.history.History as Rules
+use Rattle.rules.specs.history.Replay.{after}
+use Rattle.rules.specs.demand.Judge.{copied}
+use Rattle.rules.proofs.steps.Tables.{by, both-ways, put-each, put-same, or-left, or-right}
+use Rattle.rules.proofs.history.Alike.{SameDeeds, SameHistory, deeds-refl, commits-refl, history-refl}
 use Rattle.layout.specs.Places.{cellsOf, handlersOf}
 use Rattle.layout.specs.View.{wordSetting}
 use Rattle.ledger.specs.Entries.{Ledger, Entry, entryIn, withEntry, commitsNoted, mostCommits, handlerRow}
@@ -22,10 +22,10 @@ use Rattle.ledger.specs.Histories.{deedsOf, isOpen, historyIn}
 use Rattle.ledger.specs.Noting.{emptyEntry, readEntry, writtenEntry, noteRead, noteOutcome}
 use Rattle.ledger.specs.Promises.{isCommit}
 use Rattle.ledger.proofs.Deeds.{hasSource, reads-at, written-at}
-use Rattle.ledger.proofs.Noted.{read-noted, write-noted}
+use Rattle.ledger.proofs.OneDeedMore.{read-noted, write-noted}
 use Rattle.ledger.proofs.Histories.{empty-deeds, same-deeds}
-use Rattle.ledger.proofs.Notes.{Keeps, keeps-itself, entry-keeps, seated, now-is, opened-is, handler-noted}
-use Rattle.ledger.proofs.Notes.{commit-keeps, commit-noted}
+use Rattle.ledger.proofs.Faithful.{Keeps, keeps-itself, entry-keeps, seated, now-is, opened-is, handler-noted}
+use Rattle.ledger.proofs.Faithful.{commit-keeps, commit-noted}
 
 -- A repeated read is no deed that an answer asks.
 again-same : {S : Setting ℕ} (x v : ℕ) (deeds : List (Deed ℕ)) → SameDeeds S (again x v ∷ deeds) deeds

@@ -5,19 +5,19 @@ use mathlib.Core.Bool.{Bool, true, false, _&&_, and-false}
 use mathlib.Core.List.{List}
 use lib.Dec.{leb}
 use borrow.Author.Tests.{leb-false}
-use Rattle.rules.specs.Codes.{Step, Kind, known, unknown, kindOf}
-use Rattle.rules.specs.Replies.{Outcome, Refusal, tooManyCommits, Reply}
-use Rattle.rules.specs.Register.{Setting}
-use Rattle.rules.specs.Checks.{firstHit, stepChecks}
-use Rattle.rules.specs.Given.{Free}
-use Rattle.rules.specs.History.{History, noteReply}
-use Rattle.rules.specs.Demand.{reportedTo}
-use Rattle.rules.specs.Judge.{answer, askedByHistory, orAnswered, judgement}
-use Rattle.rules.proofs.Tables.{by, both-ways, found, and-both}
-use Rattle.rules.proofs.Given.{free-exactly}
-use Rattle.rules.proofs.Judged.{judged-free}
-use Rattle.rules.proofs.Alike.{SameHistory, history-refl}
-use Rattle.rules.proofs.ThirdDemand.{note-refused}
+use Rattle.rules.specs.steps.Codes.{Step, Kind, known, unknown, plainSheet}
+use Rattle.rules.specs.steps.Replies.{Outcome, Refusal, tooManyCommits, Reply}
+use Rattle.rules.specs.steps.Register.{Setting}
+use Rattle.rules.specs.steps.Checks.{firstHit, stepChecks}
+use Rattle.rules.specs.steps.Given.{Free}
+use Rattle.rules.specs.history.History.{History, noteReply}
+use Rattle.rules.specs.demand.Demand.{reportedTo}
+use Rattle.rules.specs.demand.Judge.{answer, askedByHistory, orAnswered, judgement}
+use Rattle.rules.proofs.steps.Tables.{by, both-ways, found, and-both}
+use Rattle.rules.proofs.steps.Given.{free-exactly}
+use Rattle.rules.proofs.demand.Judged.{judged-free}
+use Rattle.rules.proofs.history.Alike.{SameHistory, history-refl}
+use Rattle.rules.proofs.demand.ThirdDemand.{note-refused}
 use Rattle.layout.specs.Places.{cellsOf, handlersOf}
 use Rattle.layout.specs.View.{wordSetting}
 use Rattle.ledger.specs.Entries.{Ledger, commitsNoted, mostCommits}
@@ -25,7 +25,7 @@ use Rattle.ledger.specs.Histories.{historyIn}
 use Rattle.ledger.specs.Noting.{noteOutcome, noteWords}
 use Rattle.ledger.specs.Promises.{isCommit, reportsCommit, limited, judgedReply}
 use Rattle.ledger.proofs.Tested.{tested}
-use Rattle.ledger.proofs.Notes.{Keeps, keeps-itself}
+use Rattle.ledger.proofs.Faithful.{Keeps, keeps-itself}
 use Rattle.ledger.proofs.Outcomes.{outcome-noted, outcome-keeps}
 
 -- What the history says of a step is a refusal, or the answer to a step that is free.
@@ -93,24 +93,24 @@ module _ {words : List ℕ} (ledger : Ledger words) (i code : ℕ) where
       → ((s : Step) → Free (askedByHistory S (handlersOf words) h i code) s
       → (isCommit (answer S h i s) ≡ true → commitsNoted words < mostCommits)
       → Q (reportedTo i code (answer S h i s)) (known s) (noteOutcome words i s v (answer S h i s)))
-      → Q (judgedReply words i code) (kindOf code) (noteWords words i (kindOf code) v (judgedReply words i code))
+      → Q (judgedReply words i code) (plainSheet code) (noteWords words i (plainSheet code) v (judgedReply words i code))
   unfolding noteWords
-  after-cases v Q isRefused isFree = reply-cases (λ reply. Q reply (kindOf code) (noteWords words i (kindOf code) v reply))
-      (λ refusal. subst (Q (Reply.refused refusal) (kindOf code)) (sym (refusal-unnoted words i (kindOf code) v refusal)) (isRefused refusal (kindOf code)))
-      (λ s free room. subst (λ kind. Q (told s) kind (noteWords words i kind v (told s))) (sym (free .placed .heard .known)) (isFree s free room))
+  after-cases v Q isRefused isFree = reply-cases (λ reply. Q reply (plainSheet code) (noteWords words i (plainSheet code) v reply))
+      (λ refusal. subst (Q (Reply.refused refusal) (plainSheet code)) (sym (refusal-unnoted words i (plainSheet code) v refusal)) (isRefused refusal (plainSheet code)))
+      (λ s free room. subst (λ kind. Q (told s) kind (noteWords words i kind v (told s))) (sym (free .fits .heard .known)) (isFree s free room))
     where
       told : Step → Reply ℕ
       told s = reportedTo i code (answer S h i s)
 
   -- They say the history with the reply noted,
-  pub reply-noted : (v : ℕ) → SameHistory S (noteReply h i (kindOf code) v (judgedReply words i code))
-      (historyIn (noteWords words i (kindOf code) v (judgedReply words i code)))
+  pub reply-noted : (v : ℕ) → SameHistory S (noteReply h i (plainSheet code) v (judgedReply words i code))
+      (historyIn (noteWords words i (plainSheet code) v (judgedReply words i code)))
   unfolding noteReply
   reply-noted v = after-cases v (λ reply kind after. SameHistory S (noteReply h i kind v reply) (historyIn after))
       (λ refusal kind. subst (λ g. SameHistory S g h) (sym (note-refused h i kind v refusal)) history-refl)
-      (λ s free room. outcome-noted ledger (free .placed .heard .handler) s v (answer S h i s) (free .placed .cell) (free .phase) room)
+      (λ s free room. outcome-noted ledger (free .fits .heard .handler) s v (answer S h i s) (free .fits .cell) (free .phase) room)
 
   -- and are a ledger of the same m and n.
-  pub reply-keeps : (v : ℕ) → Keeps words (noteWords words i (kindOf code) v (judgedReply words i code))
+  pub reply-keeps : (v : ℕ) → Keeps words (noteWords words i (plainSheet code) v (judgedReply words i code))
   reply-keeps v = after-cases v (λ reply kind after. Keeps words after) (λ refusal kind. keeps-itself ledger)
-      (λ s free room. outcome-keeps ledger (free .placed .heard .handler) s v (answer S h i s) room)
+      (λ s free room. outcome-keeps ledger (free .fits .heard .handler) s v (answer S h i s) room)

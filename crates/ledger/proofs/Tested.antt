@@ -6,9 +6,9 @@ use mathlib.Core.List.{List}
 use mathlib.Core.Logic.{_↔_}
 use Prim.Native.Nat.{ℕ}
 use lib.ListN.{length}
-use Rattle.rules.specs.Given.{InRange}
-use Rattle.rules.proofs.Tables.{and-iff, leb-iff}
-use Rattle.rules.proofs.Given.{range-tested}
+use Rattle.rules.specs.steps.Given.{InRange}
+use Rattle.rules.proofs.steps.Tables.{and-iff, leb-iff}
+use Rattle.rules.proofs.steps.Given.{range-tested}
 use Rattle.layout.specs.Places.{cellsOf, handlersOf}
 use Rattle.ledger.specs.Entries.{ledgerLong, mostCommits, commitsNoted, Ledger, isLedger}
 

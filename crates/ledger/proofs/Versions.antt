@@ -8,14 +8,14 @@ use mathlib.Core.Bool.{Bool, true, false, _&&_}
 use mathlib.Core.List.{List}
 use lib.Dec.{eqb, ltb}
 use borrow.Author.Tests.{lt-ltb, eq-eqb, ne-eqb}
-use Rattle.rules.specs.Tables.{if_then_else_, lowest, someBelow}
-use Rattle.rules.specs.History.{hasWritten, writerAmong, writer, everyCommit}
-use Rattle.rules.specs.Past.{later}
-use Rattle.rules.specs.Replay.{replay}
-use Rattle.rules.specs.Judge.{versionCount}
-use Rattle.rules.proofs.Tables.{by}
-use Rattle.rules.proofs.Searches.{some-next}
-use Rattle.rules.proofs.Versions.{writer-new, writer-old, count-new, count-old}
+use Rattle.rules.specs.steps.Tables.{if_then_else_, lowest, someBelow}
+use Rattle.rules.specs.history.History.{hasWritten, writerAmong, writer, everyCommit}
+use Rattle.rules.specs.history.Past.{later}
+use Rattle.rules.specs.history.Replay.{replay}
+use Rattle.rules.specs.demand.Judge.{versionCount}
+use Rattle.rules.proofs.steps.Tables.{by}
+use Rattle.rules.proofs.steps.Searches.{some-next}
+use Rattle.rules.proofs.history.Versions.{writer-new, writer-old, count-new, count-old}
 use Rattle.layout.specs.View.{wordSetting}
 use Rattle.ledger.specs.Entries.{commitRow, Entry, entryIn}
 use Rattle.ledger.specs.Histories.{commitsIn}

@@ -1,37 +1,17 @@
 -- The judge's words: 81 rows of 66 words each. Row 0 is the head, with m, n and how many commits are noted; then comes one row for
 -- each of 16 handlers, and one for each of 64 commits. What a row says is an entry: what one transaction read and wrote.
-use Prim.Native.Nat.{ℕ, _+_, _*_, _≤_}
+use Prim.Native.Nat.{ℕ, _≤_}
 use mathlib.Core.Bool.{Bool, _&&_}
 use mathlib.Core.List.{List, _∷_, _++_}
 use lib.ListN.{length, getD}
 use lib.Dec.{leb}
-use Rattle.rules.specs.Checks.{inRange}
-use Rattle.rules.specs.Given.{InRange}
+use Rattle.rules.specs.steps.Checks.{inRange}
+use Rattle.rules.specs.steps.Given.{InRange}
 use Rattle.layout.specs.Bits.{hasBit, mask}
 use Rattle.layout.specs.Rows.{row, splice}
-use Rattle.layout.specs.Places.{cellsOf, handlersOf}
-
--- ── Places ────────────────────────────────────────────────────────────
-
--- How many words the judge needs.
-abbrev pub ledgerLong : ℕ
-ledgerLong = 81 * 66
-
--- The most commits that are noted.
-abbrev pub mostCommits : ℕ
-mostCommits = 64
-
--- Word 2, behind m and n: how many commits are noted.
-abbrev pub commitsNoted : List ℕ → ℕ
-commitsNoted words = getD words 2 0
-
--- The row of handler i.
-abbrev pub handlerRow : ℕ → ℕ
-handlerRow i = 1 + i
-
--- The row of the commit at a place; commits are counted from 1.
-abbrev pub commitRow : ℕ → ℕ
-commitRow place = 16 + place
+use Rattle.layout.specs.Places.{cellsOf, handlersOf, rowLong, rowStart, writtenAt, sourceAt, copyAt}
+pub use Rattle.layout.specs.Places.{ledgerLong, handlerRow, commitRow, commitsNoted}
+pub use Rattle.limits.specs.Limits.{mostCommits}
 
 -- ── Entries ───────────────────────────────────────────────────────────
 
@@ -47,10 +27,10 @@ pub record Entry : Type 0 where
 -- The entry that a row says.
 unfoldable pub entryIn : List ℕ → ℕ → Entry
 entryIn words place = record {
-  head = getD words (place * 66) 0;
-  written = hasBit (getD words (place * 66 + 1) 0);
-  sources = λ c. getD words (place * 66 + (2 + c)) 0;
-  copies = λ c. getD words (place * 66 + (34 + c)) 0;
+  head = getD words (rowStart place) 0;
+  written = hasBit (getD words (writtenAt place) 0);
+  sources = λ c. getD words (sourceAt place c) 0;
+  copies = λ c. getD words (copyAt place c) 0;
 }
 
 -- The words of an entry: its head, its written cells as bits, 32 sources, 32 copies.
@@ -59,7 +39,7 @@ pourEntry e = e .head ∷ mask 32 (e .written) ∷ (row 32 (e .sources) ++ row 3
 
 -- The words with an entry in a row, and all other words as they were.
 unfoldable pub withEntry : List ℕ → ℕ → Entry → List ℕ
-withEntry words place e = splice (place * 66) 66 (pourEntry e) words
+withEntry words place e = splice (rowStart place) rowLong (pourEntry e) words
 
 -- ── Well kept ─────────────────────────────────────────────────────────
 

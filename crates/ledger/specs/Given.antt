@@ -3,11 +3,10 @@
 use Prim.Native.Nat.{ℕ}
 use mathlib.Core.Path.{_≡_}
 use mathlib.Core.List.{List}
-use Rattle.rules.specs.Replies.{committed, Refusal, notWellFormed, noHandler, noCell, alreadyOpen, notOpen, unknownStep, Reply}
-use Rattle.rules.specs.Replies.{outOfRange, tooShort, badFile, usedUp, tooManyCommits}
-use Rattle.rules.specs.Given.{Given}
-use Rattle.rules.specs.Demand.{reportedTo}
-use Rattle.rules.specs.Judge.{askedByHistory, judgement}
+use Rattle.rules.specs.steps.Replies.{committed, Refusal, notWellFormed, tooManyCommits, Reply}
+use Rattle.rules.specs.steps.Given.{Given}
+use Rattle.rules.specs.demand.Demand.{reportedTo}
+use Rattle.rules.specs.demand.Judge.{askedByHistory, judgement}
 use Rattle.layout.specs.Places.{cellsOf, handlersOf}
 use Rattle.layout.specs.View.{wordSetting}
 use Rattle.ledger.specs.Entries.{mostCommits, commitsNoted, Ledger}
@@ -17,23 +16,14 @@ use Rattle.ledger.specs.Histories.{historyIn}
 abbrev pub toldBy : List ℕ → ℕ → ℕ → Reply ℕ
 toldBy words i code = judgement (wordSetting (cellsOf words)) (handlersOf words) (historyIn words) i code
 
--- The words are a ledger, and the rules give the refusal to what is asked, as the history tells it.
-abbrev pub RulesGive : Refusal → List ℕ → ℕ → ℕ → Type 0
-RulesGive refusal words i code =
-    Ledger words × Given refusal (askedByHistory (wordSetting (cellsOf words)) (handlersOf words) (historyIn words) i code)
-
--- When a step is refused with each number: 10 where the words are no ledger; 33 where they are one, 64 commits are noted, and the
--- history alone says that the step commits; and each other number where they are one and the rules give it.
-abbrev pub JudgeGiven : Refusal → List ℕ → ℕ → ℕ → Type 0
-JudgeGiven notWellFormed words i code = Ledger words → ⊥
-JudgeGiven unknownStep words i code = RulesGive unknownStep words i code
-JudgeGiven noHandler words i code = RulesGive noHandler words i code
-JudgeGiven noCell words i code = RulesGive noCell words i code
-JudgeGiven alreadyOpen words i code = RulesGive alreadyOpen words i code
-JudgeGiven notOpen words i code = RulesGive notOpen words i code
-JudgeGiven outOfRange words i code = RulesGive outOfRange words i code
-JudgeGiven tooShort words i code = RulesGive tooShort words i code
-JudgeGiven badFile words i code = RulesGive badFile words i code
-JudgeGiven usedUp words i code = RulesGive usedUp words i code
-JudgeGiven tooManyCommits words i code =
-    Ledger words × (commitsNoted words ≡ mostCommits) × (toldBy words i code ≡ reportedTo i code committed)
+-- When a step is refused with each number:
+pub data JudgeGiven (words : List ℕ) (i code : ℕ) : Refusal → Type 0 where
+  -- 10 where the words are no ledger,
+  noLedger : (Ledger words → ⊥) → JudgeGiven words i code notWellFormed
+  -- each number that the rules give where they are one, as the history tells what is asked,
+  byRules : {refusal : Refusal} → Ledger words
+      → Given (askedByHistory (wordSetting (cellsOf words)) (handlersOf words) (historyIn words) i code) refusal
+      → JudgeGiven words i code refusal
+  -- and 33 where they are one, 64 commits are noted, and the history alone says that the step commits
+  noRoom : Ledger words → commitsNoted words ≡ mostCommits → toldBy words i code ≡ reportedTo i code committed
+      → JudgeGiven words i code tooManyCommits

@@ -4,7 +4,7 @@ use Prim.Native.Nat.{ℕ, zero, suc}
 use mathlib.Core.Bool.{Bool, true, false, not}
 use mathlib.Core.List.{List, [], _∷_}
 use lib.Dec.{eqb}
-use Rattle.rules.specs.History.{Deed, look, set, Commit, History}
+use Rattle.rules.specs.history.History.{Deed, look, set, Commit, History}
 use Rattle.layout.specs.Rows.{below}
 use Rattle.layout.specs.Places.{cellsOf, handlersOf}
 use Rattle.ledger.specs.Entries.{commitsNoted, handlerRow, commitRow, Entry, entryIn}

@@ -3,11 +3,11 @@ use Prim.Native.Nat.{ℕ, suc}
 use mathlib.Core.Bool.{true, _||_}
 use mathlib.Core.List.{List}
 use lib.ListN.{set}
-use Rattle.rules.specs.Tables.{if_then_else_, put}
-use Rattle.rules.specs.Codes.{Step, begin, try, read, write, Kind, known, unknown}
-use Rattle.rules.specs.Replies.{Outcome, ok, value, committed, aborted, Reply, reported}
-use Rattle.rules.specs.Register.{noCells, zeros}
-use Rattle.rules.specs.History.{hasRead, hasWritten, writer}
+use Rattle.rules.specs.steps.Tables.{if_then_else_, put}
+use Rattle.rules.specs.steps.Codes.{Step, begin, try, read, write, Kind, known, unknown}
+use Rattle.rules.specs.steps.Replies.{Outcome, ok, value, committed, aborted, Reply, reported}
+use Rattle.rules.specs.steps.Register.{noCells, zeros}
+use Rattle.rules.specs.history.History.{hasRead, hasWritten, writer}
 use Rattle.ledger.specs.Entries.{commitsNoted, handlerRow, commitRow, Entry, entryIn, withEntry}
 use Rattle.ledger.specs.Histories.{historyIn}
 
@@ -41,8 +41,8 @@ noteRead words i x v =
     else (withHandlerEntry words i (readEntry (entryIn words (handlerRow i)) x (writer (h .commits) x) v))
 
 -- Handler i's transaction commits: one commit more, and the handler is idle.
-unfoldable pub noteCommit : List ℕ → ℕ → List ℕ
-noteCommit words i =
+unfoldable pub noteCommitRow : List ℕ → ℕ → List ℕ
+noteCommitRow words i =
     let place = suc (commitsNoted words) in
     let noted = withEntry words (commitRow place) (committedEntry i (entryIn words (handlerRow i))) in
     set (withHandlerEntry noted i (emptyEntry 0)) 2 place
@@ -57,7 +57,7 @@ noteOutcome words i (read x) v (value w) = noteRead words i x w
 noteOutcome words i begin v (value w) = words
 noteOutcome words i (write x) v (value w) = words
 noteOutcome words i try v (value w) = words
-noteOutcome words i step v committed = noteCommit words i
+noteOutcome words i step v committed = noteCommitRow words i
 noteOutcome words i step v (aborted reason) = withHandlerEntry words i (emptyEntry 0)
 
 -- The words after what handler i asked for got a reply. A refusal changes nothing.

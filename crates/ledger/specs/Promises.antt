@@ -1,22 +1,23 @@
 -- What the judge's opening and its steps promise, for all words. Each reply is what the history tells that the words say, by the
 -- rules' own definitions.
 use Prim.Native.Nat.{ℕ}
-use mathlib.Core.Path.{_≡_}
 use mathlib.Core.Bool.{Bool, true, false, _&&_}
 use mathlib.Core.List.{List, _∷_, _++_}
 use mathlib.Core.Option.{Option, none, some}
 use lib.ListN.{length, drop}
 use lib.Dec.{leb}
-use Rattle.rules.specs.Tables.{if_then_else_}
-use Rattle.rules.specs.Codes.{kindOf}
-use Rattle.rules.specs.Replies.{ok, value, committed, aborted, Outcome, Refusal, notWellFormed, tooManyCommits, Reply, reported, Opening}
-use Rattle.rules.specs.Register.{zeros}
-use Rattle.rules.specs.Checks.{firstHit, openingChecks}
-use Rattle.rules.specs.Judge.{judgement}
+use Rattle.rules.specs.Promise.{Due, Promise}
+use Rattle.rules.specs.steps.Tables.{if_then_else_}
+use Rattle.rules.specs.steps.Codes.{plainSheet}
+use Rattle.rules.specs.steps.Replies.{ok, value, committed, aborted, Outcome, Refusal, notWellFormed, tooManyCommits, Reply, reported, Opening}
+use Rattle.rules.specs.steps.Register.{zeros}
+use Rattle.rules.specs.steps.Checks.{firstHit, openingChecks}
+use Rattle.rules.specs.demand.Judge.{judgement}
 use Rattle.layout.specs.Rows.{row}
 use Rattle.layout.specs.Places.{cellsOf, handlersOf}
 use Rattle.layout.specs.View.{wordSetting}
-use Rattle.promises.specs.Opening.{openingReply}
+use Rattle.promises.specs.Opening.{openingReply, OpeningCall}
+use Rattle.promises.specs.Stepping.{StepCall}
 use Rattle.ledger.specs.Entries.{ledgerLong, mostCommits, commitsNoted, isLedger}
 use Rattle.ledger.specs.Histories.{historyIn}
 use Rattle.ledger.specs.Noting.{noteWords}
@@ -36,10 +37,15 @@ unfoldable pub ledgerWords : List ℕ → ℕ → ℕ → Option Refusal → Lis
 ledgerWords words m n (some refusal) = words
 ledgerWords words m n none = freshLedger m n ++ drop ledgerLong words
 
+-- What opening comes to.
+abbrev pub openingLedger : OpeningCall → Due Opening (List ℕ)
+openingLedger call =
+    let refusal = ledgerRefusal (call .words) (call .cells) (call .handlers) in
+    record { reply = openingReply refusal; leaves = ledgerWords (call .words) (call .cells) (call .handlers) refusal }
+
 -- The promise of opening.
-pub record LedgerPromise (words : List ℕ) (m n : ℕ) (reply : Opening) (after : List ℕ) : Type 0 where
-  pub replied : reply ≡ openingReply (ledgerRefusal words m n)
-  pub left : after ≡ ledgerWords words m n (ledgerRefusal words m n)
+abbrev pub LedgerPromise : List ℕ → ℕ → ℕ → Opening → List ℕ → Type 0
+LedgerPromise words m n reply after = Promise openingLedger (record { words = words; cells = m; handlers = n }) reply after
 
 -- ── A step ────────────────────────────────────────────────────────────
 
@@ -65,7 +71,12 @@ judgedReply words i code =
     let told = judgement (wordSetting (cellsOf words)) (handlersOf words) (historyIn words) i code in
     if isLedger words then (limited (commitsNoted words) told) else (Reply.refused notWellFormed)
 
+-- What a step comes to.
+abbrev pub judging : StepCall → Due (Reply ℕ) (List ℕ)
+judging call =
+    let reply = judgedReply (call .words) (call .handler) (call .code) in
+    record { reply = reply; leaves = noteWords (call .words) (call .handler) (plainSheet (call .code)) (call .value) reply }
+
 -- The promise of a step.
-pub record JudgedPromise (words : List ℕ) (handler code value : ℕ) (reply : Reply ℕ) (after : List ℕ) : Type 0 where
-  pub replied : reply ≡ judgedReply words handler code
-  pub left : after ≡ noteWords words handler (kindOf code) value (judgedReply words handler code)
+abbrev pub JudgedPromise : List ℕ → ℕ → ℕ → ℕ → Reply ℕ → List ℕ → Type 0
+JudgedPromise words handler code v reply after = Promise judging (record { words = words; handler = handler; code = code; value = v }) reply after

@@ -4,10 +4,10 @@ use Prim.Native.Nat.{ℕ}
 use mathlib.Core.Path.{_≡_}
 use mathlib.Core.List.{List, [], _∷_, _++_}
 use lib.ListN.{length}
-use Rattle.rules.specs.Replies.{Reply, ready}
-use Rattle.rules.specs.History.{History, noHistory}
-use Rattle.rules.specs.Demand.{Ask}
-use Rattle.rules.specs.Judge.{judgement}
+use Rattle.rules.specs.steps.Replies.{Reply, ready}
+use Rattle.rules.specs.history.History.{History, noHistory}
+use Rattle.rules.specs.demand.Demand.{Ask}
+use Rattle.rules.specs.demand.Judge.{judgement}
 use Rattle.layout.specs.View.{wordSetting}
 use Rattle.promises.specs.Runs.{noted}
 use Rattle.ledger.specs.Promises.{LedgerPromise, limited, JudgedPromise}

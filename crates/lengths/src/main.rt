@@ -1,5 +1,8 @@
 // Opens registers of several sizes and prints what is replied: K1 and K13 of document 01.
 use libc::STDOUT_FILENO;
+use limits::MOST_CELLS;
+use limits::MOST_HANDLERS;
+use limits::REGISTER_WORDS;
 use register::Needed;
 use replies::Opened;
 
@@ -46,19 +49,19 @@ fn main() {
     opened(&mut enough, 2, 1);
     let mut short = [7u32; 16];
     opened(&mut short, 2, 1);
-    let mut largest = [7u32; 2642];
-    opened(&mut largest, 32, 16);
-    let mut shorter = [7u32; 2641];
-    opened(&mut shorter, 32, 16);
-    let mut cells = [7u32; 2642];
-    opened(&mut cells, 33, 1);
-    let mut handlers = [7u32; 2642];
-    opened(&mut handlers, 32, 17);
-    let mut none = [7u32; 2642];
+    let mut largest = [7u32; REGISTER_WORDS];
+    opened(&mut largest, MOST_CELLS, MOST_HANDLERS);
+    let mut shorter = [7u32; REGISTER_WORDS - 1];
+    opened(&mut shorter, MOST_CELLS, MOST_HANDLERS);
+    let mut cells = [7u32; REGISTER_WORDS];
+    opened(&mut cells, MOST_CELLS + 1, 1);
+    let mut handlers = [7u32; REGISTER_WORDS];
+    opened(&mut handlers, MOST_CELLS, MOST_HANDLERS + 1);
+    let mut none = [7u32; REGISTER_WORDS];
     opened(&mut none, 0, 1);
     needed(1, 1);
     needed(2, 1);
-    needed(32, 16);
-    needed(33, 1);
+    needed(MOST_CELLS, MOST_HANDLERS);
+    needed(MOST_CELLS + 1, 1);
     needed(1, 0);
 }

@@ -1,15 +1,19 @@
-// The lines of a run on standard output, the same for every program that runs a schedule file. A line is put together in a buffer
-// and written by one call.
+// A run of the schedule file on standard input, the same whoever answers its steps: a header, a line for each order place, then each
+// cell, on standard output. A line is put together in a buffer and written by one call.
 // PUBLIC: nothing that is offered has a `requires`. Nothing is answered and nothing lent, so there is no promise beside that each
 // function ends.
 ghost use Prim.Native.Nat.{_≤_};
 ghost use lib.ListN.{length};
+use libc::STDIN_FILENO;
 use libc::STDOUT_FILENO;
 use replies::Answer;
+use replies::End;
+use replies::Opened;
 use replies::Outcome;
 use replies::Refusal;
-use schedule::End;
-use schedule::Shown;
+use runs::Player;
+use runs::Shown;
+use schedule::Admitted;
 
 // The smaller of two numbers.
 fn smaller(a: usize, b: usize) -> usize
@@ -110,7 +114,7 @@ fn start(line: &mut [u8], place: usize, handler: u32) -> usize
 }
 
 // The one line of a refused file.
-pub fn print_refused(refusal: Refusal) {
+fn print_refused(refusal: Refusal) {
     let mut space = [0u8; 128];
     let line: &mut [u8] = &mut space;
     let end = refused(line, 0, refusal);
@@ -118,7 +122,7 @@ pub fn print_refused(refusal: Refusal) {
 }
 
 // The header.
-pub fn print_header(handlers: u32, cells: u32) {
+fn print_header(handlers: u32, cells: u32) {
     let mut space = [0u8; 128];
     let line: &mut [u8] = &mut space;
     let named = text(line, 0, b"handlers ");
@@ -129,7 +133,7 @@ pub fn print_header(handlers: u32, cells: u32) {
 }
 
 // The line of an order place, if it shows one.
-pub fn print_place(place: usize, shown: Shown) {
+fn print_place(place: usize, shown: Shown) {
     let mut space = [0u8; 128];
     let line: &mut [u8] = &mut space;
     match shown {
@@ -155,7 +159,7 @@ pub fn print_place(place: usize, shown: Shown) {
 }
 
 // The line of a cell at the end.
-pub fn print_cell(c: u32, end: End) {
+fn print_cell(c: u32, end: End) {
     let mut space = [0u8; 128];
     let line: &mut [u8] = &mut space;
     match end {
@@ -170,4 +174,55 @@ pub fn print_cell(c: u32, end: End) {
         }
         End::Missing => {}
     }
+}
+
+// Each order place, one after another, until the run stops; whether it came to the end. There are fewer places than the file has
+// bytes.
+fn show_places(player: Player, file: &[u8], words: &mut [u32]) -> bool {
+    let mut cursors = schedule::at_start();
+    for place in 0..file.len() {
+        let placed = runs::play_place(player, file, cursors, place, words);
+        cursors = placed.cursors;
+        let shown = placed.shown;
+        print_place(place, shown);
+        if runs::stops_at(shown) {
+            return false;
+        }
+    }
+    true
+}
+
+// Each cell with its value and its own number.
+fn show_cells(player: Player, words: &[u32], cells: u32) {
+    for c in 0..cells {
+        let end = runs::cell_end(player, words, c);
+        print_cell(c, end);
+    }
+}
+
+// The run of a file that is sound.
+fn show_run(player: Player, file: &[u8], words: &mut [u32], handlers: u32, cells: u32) {
+    let Opened::Ready = runs::open(player, words, cells, handlers) else {
+        return;
+    };
+    print_header(handlers, cells);
+    if show_places(player, file, words) {
+        show_cells(player, words, cells);
+    }
+}
+
+// Runs a file with a player; a refused file is one line.
+fn run_file(player: Player, file: &[u8], words: &mut [u32]) {
+    match schedule::admit_file(file) {
+        Admitted::Sound { handlers, cells } => show_run(player, file, words, handlers, cells),
+        Admitted::Rejected(refusal) => print_refused(refusal),
+    }
+}
+
+// Runs the file on standard input with a player, on words that are lent to it. One byte more than a file may have is read, so that a
+// file that is too long is noticed.
+pub fn run_input(player: Player, words: &mut [u32]) {
+    let mut buffer = io::large_buffer();
+    let count = io::read_full(STDIN_FILENO, &mut buffer);
+    run_file(player, &buffer[..count], words);
 }

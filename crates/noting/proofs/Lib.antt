@@ -1,2 +1,3 @@
--- The laws of noting.
+-- Laws of what is stored.
 pub mod Stores
+pub mod Placed

@@ -6,14 +6,14 @@ use mathlib.Core.Path.{_≡_, refl, sym, ap, _∙_}
 use mathlib.Core.List.{List}
 use lib.ListN.{length, getD, set, length-set}
 use lib.Seq.{getD-set-same, getD-set-other}
-use Rattle.rules.specs.Register.{zeros}
-use Rattle.rules.proofs.Tables.{put-each}
+use Rattle.rules.specs.steps.Register.{zeros}
+use Rattle.rules.proofs.steps.Tables.{put-each}
 use Rattle.layout.specs.Bits.{mask}
 use Rattle.layout.proofs.Bits.{withBit, mask-none, mask-has, mask-with}
 use Rattle.layout.proofs.Untouched.{Untouched}
 use Rattle.words.specs.Rows.{Changed}
-use Rattle.ledger.specs.Entries.{Entry, entryIn, withEntry, commitsNoted}
-use Rattle.ledger.specs.Noting.{emptyEntry, readEntry, writtenEntry, committedEntry, noteCommit}
+use Rattle.ledger.specs.Entries.{Entry, entryIn, withEntry, commitsNoted, handlerRow, commitRow}
+use Rattle.ledger.specs.Noting.{emptyEntry, readEntry, writtenEntry, committedEntry, noteCommitRow}
 use Rattle.ledger.proofs.Entries.{lays-entry, with-untouched}
 
 -- Nothing is touched yet.
@@ -140,9 +140,10 @@ pub with-length : (words : List ℕ) {after : List ℕ} (row : ℕ) (e : Entry) 
 with-length words row e same fits = ap length same ∙ with-untouched words row e fits .size
 
 -- A row copied, another emptied, and the number of commits stored, note a commit.
-pub commit-stored : (words : List ℕ) (i : ℕ) {copied emptied : List ℕ} → emptied ≡ withEntry copied (1 + i) (emptyEntry 0)
-    → copied ≡ withEntry words (16 + (commitsNoted words + 1)) (committedEntry i (entryIn words (1 + i)))
-    → set emptied 2 (commitsNoted words + 1) ≡ noteCommit words i
-unfolding noteCommit
-commit-stored words i empty copy =
-    rw (empty, copy, add-one (commitsNoted words))
+pub commit-stored : (words : List ℕ) (i : ℕ) {row : ℕ} {copied emptied : List ℕ} → row ≡ handlerRow i
+    → emptied ≡ withEntry copied row (emptyEntry 0)
+    → copied ≡ withEntry words (commitRow (commitsNoted words + 1)) (committedEntry i (entryIn words (handlerRow i)))
+    → set emptied 2 (commitsNoted words + 1) ≡ noteCommitRow words i
+unfolding noteCommitRow
+commit-stored words i there empty copy =
+    rw (empty, there, copy, add-one (commitsNoted words))

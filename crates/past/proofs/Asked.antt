@@ -4,9 +4,9 @@ use native.Mathlib.Numerals.{add-one}
 use mathlib.Core.Path.{_≡_, sym, _∙_}
 use mathlib.Core.Bool.{true}
 use mathlib.Core.List.{List}
-use Rattle.rules.specs.Past.{upTo}
-use Rattle.rules.proofs.Tables.{both-ways}
-use Rattle.rules.proofs.Pasts.{lastOf}
+use Rattle.rules.specs.history.Past.{upTo}
+use Rattle.rules.proofs.steps.Tables.{both-ways}
+use Rattle.rules.proofs.history.Pasts.{lastOf}
 use Rattle.ledger.specs.Entries.{Entry, entryIn, commitRow}
 use Rattle.ledger.specs.Histories.{deedsOf, commitsIn}
 use Rattle.ledger.proofs.Commits.{upTo-first, upTo-opening}
@@ -52,7 +52,8 @@ module _ (m : ℕ) (words : List ℕ) where
   adds-again marks place closed there = adds-nothing _ marks (λ j. closed .holds place j there)
 
   -- Any other is marked after its transaction's past.
-  pub adds-version : {marks seen after : ℕ} (place : ℕ) → 1 ≤ place → let e = entryIn words (commitRow place) in
-      Adds (pastOfTransaction m words (place - 1) (e .head) e) marks seen → Adds (only place) seen after
+  pub adds-version : {marks seen after handler row : ℕ} (place : ℕ) → 1 ≤ place
+      → handler ≡ entryIn words (commitRow place) .head → row ≡ commitRow place
+      → Adds (pastOfTransaction m words (place - 1) handler (entryIn words row)) marks seen → Adds (only place) seen after
       → Adds (pastOfVersion m words place) marks after
-  adds-version place h past itself = adds-both _ (λ j. version-past m words place j h) past itself
+  adds-version place h own there past itself = adds-both _ (λ j. version-past m words place j h) (rw (own, there) at past) itself

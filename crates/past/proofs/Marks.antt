@@ -7,8 +7,8 @@ use mathlib.Core.Path.{_≡_, refl, sym, ap, _∙_, fun-ext}
 use mathlib.Core.Bool.{Bool, true, false, _||_, or-true, or-false, or-assoc, or-comm}
 use mathlib.Core.List.{List}
 use lib.Dec.{eqb, eqb·zero-suc, eqb·suc-suc}
-use Rattle.rules.specs.Tables.{put}
-use Rattle.rules.proofs.Tables.{by, both-ways, either, or-absorb}
+use Rattle.rules.specs.steps.Tables.{put}
+use Rattle.rules.proofs.steps.Tables.{by, both-ways, either, or-absorb}
 use Rattle.layout.specs.Bits.{hasBit}
 use Rattle.layout.proofs.Bits.{withBit, has-with, no-bit-from}
 use Rattle.past.specs.Marks.{marked, only, Adds, Closed}

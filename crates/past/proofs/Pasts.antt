@@ -8,11 +8,11 @@ use mathlib.Core.Bool.{Bool, true, false, _||_}
 use mathlib.Core.List.{List, []}
 use lib.Dec.{leb}
 use borrow.Author.Tests.{leb-true, leb-false}
-use Rattle.rules.specs.History.{Deed, Commit}
-use Rattle.rules.specs.Past.{InPast, before, UpTo, itself, behind, inPast, upTo}
-use Rattle.rules.proofs.Tables.{by, both-ways}
-use Rattle.rules.proofs.Pasts.{past-none, past-look, past-set, lastOf, past-last}
-use Rattle.rules.proofs.Computed.{past-is, upTo-is}
+use Rattle.rules.specs.history.History.{Deed, Commit}
+use Rattle.rules.specs.history.Past.{InPast, before, UpTo, itself, behind, inPast, upTo}
+use Rattle.rules.proofs.steps.Tables.{by, both-ways}
+use Rattle.rules.proofs.history.Pasts.{past-none, past-look, past-set, lastOf, past-last}
+use Rattle.rules.proofs.history.Computed.{past-is, upTo-is}
 use Rattle.ledger.specs.Entries.{Entry, entryIn, commitRow}
 use Rattle.ledger.specs.Histories.{lookOf, setOf, deedsOf, commitsIn}
 use Rattle.ledger.proofs.Commits.{commits-count, upTo-newest, upTo-first, upTo-opening, upTo-outside, last-stood}

@@ -1,3 +1,4 @@
+-- For internal contracts alone: what our own functions are called with and leave. Nothing here need be believed.
 -- Marks: a set of commits in one word of 64 bits, bit k for the commit at place k + 1; and the pasts that are asked for, as the
 -- rules define them of the commits that the judge's words say.
 use Prim.Native.Nat.{ℕ, zero, suc}
@@ -5,8 +6,8 @@ use mathlib.Core.Path.{_≡_}
 use mathlib.Core.Bool.{Bool, true, false, _||_}
 use mathlib.Core.List.{List}
 use lib.Dec.{eqb, leb}
-use Rattle.rules.specs.Tables.{if_then_else_}
-use Rattle.rules.specs.Past.{inPast, upTo}
+use Rattle.rules.specs.steps.Tables.{if_then_else_}
+use Rattle.rules.specs.history.Past.{inPast, upTo}
 use Rattle.layout.specs.Bits.{hasBit}
 use Rattle.ledger.specs.Entries.{Entry}
 use Rattle.ledger.specs.Histories.{deedsOf, commitsIn}

@@ -3,8 +3,9 @@
 ghost use mathlib.Core.Path.{_≡_};
 ghost use Prim.Native.Nat.{ℕ, _≤_, _<_};
 ghost use lib.ListN.{length};
-ghost use Rattle.rules.proofs.Pasts.{lastOf};
-ghost use Rattle.ledger.specs.Entries.{ledgerLong, mostCommits, entryIn};
+ghost use Rattle.rules.proofs.history.Pasts.{lastOf};
+ghost use Rattle.limits.specs.Limits.{mostCells, ledgerRows};
+ghost use Rattle.ledger.specs.Entries.{ledgerLong, mostCommits, commitRow, entryIn};
 ghost use Rattle.ledger.specs.Histories.{commitsIn};
 ghost use Rattle.past.specs.Marks.{pastOfTransaction, pastOfVersion, sourcePlace, marked, only, Adds, Closed};
 
@@ -29,6 +30,15 @@ fn mark(marks: u64, place: usize) -> u64
     }
 }
 
+// The handler of the commit at a place.
+fn handler_of(words: &[u32], place: usize) -> u32
+    requires { ⌜ (ledgerLong ≤ length (now words)) × (place ≤ mostCommits) ⌝ }
+    ensures { λ r. ⌜ r ≡ entryIn (now (words .entry)) (commitRow place) .head ⌝ }
+{
+    let at = places::row_at(places::commit_row(place));
+    words[at]
+}
+
 // The place of the handler's last commit among the first so many; 0 if it has none.
 fn last_own(words: &[u32], handler: u32, count: usize) -> usize
     requires { ⌜ (ledgerLong ≤ length (now words)) × (count ≤ mostCommits) ⌝ }
@@ -37,7 +47,7 @@ fn last_own(words: &[u32], handler: u32, count: usize) -> usize
     let mut last = 0;
     for earlier in 0..count {
         let place = earlier + 1;
-        if words[(16 + place) * 66] == handler {
+        if handler_of(words, place) == handler {
             last = place;
         }
     }
@@ -46,10 +56,11 @@ fn last_own(words: &[u32], handler: u32, count: usize) -> usize
 
 // The place of the commit, among the first so many, that a row's transaction read the cell c from; 0 if there is none.
 fn source_of(words: &[u32], row: usize, c: usize, count: usize) -> usize
-    requires { ⌜ (ledgerLong ≤ length (now words)) × (row < 81) × (c < 32) ⌝ }
+    requires { ⌜ (ledgerLong ≤ length (now words)) × (row < ledgerRows) × (c < mostCells) ⌝ }
     ensures { λ r. ⌜ r ≡ sourcePlace (entryIn (now (words .entry)) row .sources c) count ⌝ }
 {
-    let source = words[row * 66 + (2 + c)] as usize;
+    let at = places::source_at(row, c);
+    let source = words[at] as usize;
     if 0 < source {
         if source - 1 <= count {
             return source - 1;
@@ -68,7 +79,7 @@ pub fn past_of_transaction(
     count: usize,
     marks: u64,
 ) -> u64
-    requires { ⌜ (ledgerLong ≤ length (now words)) × (m ≤ 32) × (row < 81) × (count ≤ mostCommits) ⌝ }
+    requires { ⌜ (ledgerLong ≤ length (now words)) × (m ≤ mostCells) × (row < ledgerRows) × (count ≤ mostCommits) ⌝ }
     requires { ⌜ Closed m (now words) (marked marks) ⌝ }
     ensures { λ r. ⌜ Adds (pastOfTransaction m (now (words .entry)) count handler (entryIn (now (words .entry)) row)) marks r ⌝ }
 {
@@ -81,7 +92,7 @@ pub fn past_of_transaction(
 
 // A version's past is asked of the commit that wrote it; the opening's version has none.
 pub fn past_of_version(words: &[u32], m: usize, place: usize, marks: u64) -> u64
-    requires { ⌜ (ledgerLong ≤ length (now words)) × (m ≤ 32) × (place ≤ mostCommits) ⌝ }
+    requires { ⌜ (ledgerLong ≤ length (now words)) × (m ≤ mostCells) × (place ≤ mostCommits) ⌝ }
     requires { ⌜ Closed m (now words) (marked marks) ⌝ }
     ensures { λ r. ⌜ Adds (pastOfVersion m (now (words .entry)) place) marks r ⌝ }
 {
@@ -91,8 +102,8 @@ pub fn past_of_version(words: &[u32], m: usize, place: usize, marks: u64) -> u64
     if is_marked(marks, place) {
         return marks;
     }
-    let row = 16 + place;
-    let handler = words[row * 66];
+    let row = places::commit_row(place);
+    let handler = handler_of(words, place);
     let seen = past_of_transaction(words, m, handler, row, place - 1, marks);
     mark(seen, place)
 }

@@ -6,11 +6,11 @@ use mathlib.Core.List.{List}
 use mathlib.Core.Logic.{_↔_}
 use mathlib.Core.Option.{Option, none, some, Option·some-ne-none}
 use lib.ListN.{length}
-use Rattle.rules.specs.Replies.{Refusal, Reply, Opening}
-use Rattle.rules.specs.Checks.{firstHit, openingChecks}
-use Rattle.rules.specs.Given.{Given, OpeningGiven}
-use Rattle.rules.proofs.Given.{opening-exactly}
-use Rattle.rules.proofs.Turns.{turn-given}
+use Rattle.rules.specs.steps.Replies.{Refusal, Reply, Opening}
+use Rattle.rules.specs.steps.Checks.{firstHit, openingChecks}
+use Rattle.rules.specs.steps.Given.{Given, OpeningGiven}
+use Rattle.rules.proofs.steps.Given.{opening-exactly}
+use Rattle.rules.proofs.steps.Turns.{turn-given}
 use Rattle.layout.specs.Places.{size}
 use Rattle.promises.specs.Opening.{openingRefusal, openingReply, openingWords, OpeningPromise}
 use Rattle.promises.specs.Stepping.{askedOf, turnOf, stepWords, StepPromise}
@@ -28,7 +28,7 @@ opening-said (some other) refusal = (λ e. cc, λ e. cc)
 
 -- Of so many words, where so many are needed, a reply that the checks give is each refusal exactly then.
 pub opening-given : (m n long need : ℕ) {reply : Opening} → reply ≡ openingReply (firstHit (openingChecks m n long need))
-    → (refusal : Refusal) → (reply ≡ Opening.refused refusal) ↔ OpeningGiven refusal m n long need
+    → (refusal : Refusal) → (reply ≡ Opening.refused refusal) ↔ OpeningGiven m n long need refusal
 opening-given m n long need replied refusal =
     let said = opening-said (firstHit (openingChecks m n long need)) refusal in
     let given = opening-exactly m n long need refusal in
@@ -36,7 +36,7 @@ opening-given m n long need replied refusal =
 
 -- An opening is refused with each number exactly then.
 pub opening-refused : {words : List ℕ} {m n : ℕ} {reply : Opening} {after : List ℕ} → OpeningPromise words m n reply after
-    → (refusal : Refusal) → (reply ≡ Opening.refused refusal) ↔ OpeningGiven refusal m n (length words) (size m n)
+    → (refusal : Refusal) → (reply ≡ Opening.refused refusal) ↔ OpeningGiven m n (length words) (size m n) refusal
 unfolding openingRefusal
 opening-refused {words} {m} {n} p = opening-given m n (length words) (size m n) (p .replied)
 
@@ -52,7 +52,7 @@ opening-unchanged {words} {m} {n} p refusal e =
 
 -- A step is refused with each number exactly then.
 pub step-refused : {words : List ℕ} {handler code value : ℕ} {reply : Reply ℕ} {after : List ℕ} → StepPromise words handler code value reply after
-    → (refusal : Refusal) → (reply ≡ Reply.refused refusal) ↔ Given refusal (askedOf words handler code)
+    → (refusal : Refusal) → (reply ≡ Reply.refused refusal) ↔ Given (askedOf words handler code) refusal
 unfolding turnOf
 step-refused p refusal =
     let given = turn-given _ _ _ _ _ _ _ refusal in

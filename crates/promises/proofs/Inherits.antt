@@ -4,12 +4,12 @@ use native.Mathlib.Omega.{arith}
 use mathlib.Core.Path.{_≡_, sym, ap, _∙_}
 use mathlib.Core.List.{List}
 use lib.ListN.{getD}
-use Rattle.rules.specs.Register.{blank}
-use Rattle.rules.specs.History.{History}
-use Rattle.rules.specs.Demand.{Ask, Consistent}
-use Rattle.rules.specs.Judge.{Told}
-use Rattle.rules.proofs.ThirdDemand.{CellTold, cells-told, third-demand, history-tells}
-use Rattle.layout.specs.Places.{cellStart, cellLong}
+use Rattle.rules.specs.steps.Register.{blank}
+use Rattle.rules.specs.history.History.{History}
+use Rattle.rules.specs.demand.Demand.{Ask, Consistent}
+use Rattle.rules.specs.demand.Judge.{Told}
+use Rattle.rules.proofs.demand.ThirdDemand.{CellTold, cells-told, third-demand, history-tells}
+use Rattle.layout.specs.Places.{bodyOf, cellStart, cellLong}
 use Rattle.layout.specs.View.{wordSetting, viewCell, view}
 use Rattle.layout.proofs.Rows.{part-at, below-inside, below-is}
 use Rattle.layout.proofs.ViewPour.{view-cell, view-confined}
@@ -21,35 +21,35 @@ use Rattle.promises.proofs.Runs.{FollowsRules, rules-reply, run-follows
 
 module _ (m n : ℕ) (words : List ℕ) where
   -- A cell's first word is its value.
-  pub value-said : (x : ℕ) → x < m → getD words (cellStart m x) 0 ≡ view m n words .cells x .value
+  pub value-said : (x : ℕ) → x < m → getD (bodyOf words) (cellStart m x) 0 ≡ view m n (bodyOf words) .cells x .value
   unfolding viewCell
   value-said x inside =
-      ap (λ place. getD words place 0) (let first : cellStart m x ≡ cellStart m x + 0 = omega arith in first)
-      ∙ sym (part-at (cellStart m x) (cellLong m) words 0 (omega arith))
-      ∙ ap (λ cell. cell .value) (sym (view-cell m n words x inside))
+      ap (λ place. getD (bodyOf words) place 0) (let first : cellStart m x ≡ cellStart m x + 0 = omega arith in first)
+      ∙ sym (part-at (cellStart m x) (cellLong m) (bodyOf words) 0 (omega arith))
+      ∙ ap (λ cell. cell .value) (sym (view-cell m n (bodyOf words) x inside))
 
   -- The values that are read off the words are those of the register that the words say.
-  values-said : cellValues m words ≡ (λ x. view m n words .cells x .value)
+  values-said : cellValues m words ≡ (λ x. view m n (bodyOf words) .cells x .value)
   unfolding cellValues blank
-  values-said = below-is m 0 _ _ value-said (λ x beyond. ap (λ cell. cell .value) (view-confined m n words .cells x beyond))
+  values-said = below-is m 0 _ _ value-said (λ x beyond. ap (λ cell. cell .value) (view-confined m n (bodyOf words) .cells x beyond))
 
   -- A number that is read off the words is that of the register that the words say.
-  pub number-said : (x y : ℕ) → x < m → y < m → numberWord m words x y ≡ view m n words .cells x .numbers y
+  pub number-said : (x y : ℕ) → x < m → y < m → numberWord m words x y ≡ view m n (bodyOf words) .cells x .numbers y
   unfolding viewCell
   number-said x y inside below =
-      sym (part-at (cellStart m x) (cellLong m) words (1 + y) (omega arith))
+      sym (part-at (cellStart m x) (cellLong m) (bodyOf words) (1 + y) (omega arith))
       ∙ sym (below-inside m 0 _ y below)
-      ∙ ap (λ cell. cell .numbers y) (sym (view-cell m n words x inside))
+      ∙ ap (λ cell. cell .numbers y) (sym (view-cell m n (bodyOf words) x inside))
 
 -- ── What is inherited ─────────────────────────────────────────────────
 
 module _ {m n : ℕ} {asks : List (Ask ℕ)} {words : List ℕ} {h : History ℕ} (follows : FollowsRules m n asks words h) where
   -- The register that the words say is consistent with the history,
-  consistent : Consistent (wordSetting m) n (view m n words) h
+  consistent : Consistent (wordSetting m) n (view m n (bodyOf words)) h
   consistent = rw (follows .says, follows .history) (third-demand ℕ (wordSetting m) n asks)
 
   -- and is told by it.
-  told : Told (wordSetting m) n (view m n words) h
+  told : Told (wordSetting m) n (view m n (bodyOf words)) h
   told = rw (follows .says, follows .history) (history-tells ℕ (wordSetting m) n asks)
 
   -- So the words are consistent with the history.
@@ -69,7 +69,7 @@ words-inherit m n asks words h ran = follows-consistent (run-follows ran)
 -- After every run of words the history tells of each cell, as the words say it: its value is what all commits leave there, and its
 -- own number is how many of them wrote it.
 pub words-told : {m n : ℕ} {asks : List (Ask ℕ)} {words : List ℕ} {h : History ℕ} → WordRun m n asks words h
-    → (x : ℕ) → CellTold (wordSetting m) (view m n words) h x
+    → (x : ℕ) → CellTold (wordSetting m) (view m n (bodyOf words)) h x
 words-told {m} {n} {asks} ran x =
     let follows = run-follows ran in
     rw (follows .says, follows .history) (cells-told (wordSetting m) n asks x)

@@ -10,19 +10,19 @@ use native.Mathlib.Omega.{arith}
 use lib.Dec.{ltb}
 use lib.ListN.{length, drop}
 use borrow.Author.Tests.{ltb-false, not-false}
-use Rattle.rules.specs.Codes.{Step}
-use Rattle.rules.specs.Replies.{Refusal, Reply, ready}
-use Rattle.rules.specs.Register.{fresh}
-use Rattle.rules.specs.Checks.{firstHit, inRange, openingChecks}
-use Rattle.rules.specs.Given.{Free}
-use Rattle.rules.proofs.Given.{none-holds, Verdict, verdict}
-use Rattle.rules.proofs.Turns.{refusedTurn, takenTurn, given-turn, free-turn}
-use Rattle.rules.proofs.Confined.{Confined, step-confined, fresh-confined}
-use Rattle.layout.specs.Places.{cellsOf, handlersOf, size}
-use Rattle.layout.specs.View.{wordSetting, view, holding}
+use Rattle.rules.specs.steps.Codes.{Step}
+use Rattle.rules.specs.steps.Replies.{Refusal, Reply, ready}
+use Rattle.rules.specs.steps.Register.{fresh}
+use Rattle.rules.specs.steps.Checks.{firstHit, inRange, openingChecks}
+use Rattle.rules.specs.steps.Given.{Free}
+use Rattle.rules.proofs.steps.Given.{none-holds, Verdict, verdict}
+use Rattle.rules.proofs.steps.Turns.{refusedTurn, takenTurn, given-turn, free-turn}
+use Rattle.rules.proofs.steps.Confined.{Confined, step-confined, fresh-confined}
+use Rattle.layout.specs.Places.{cellsOf, handlersOf, size, bodyOf}
+use Rattle.layout.specs.View.{wordSetting, view, viewed, registerIn}
 use Rattle.layout.specs.WellFormed.{WellFormed}
 use Rattle.layout.proofs.Tested.{tested}
-use Rattle.layout.proofs.Holds.{pour-holds, pour-over-length}
+use Rattle.layout.proofs.Holds.{register-length, register-beyond}
 use Rattle.layout.proofs.ViewPour.{view-pour, view-confined}
 use Rattle.layout.proofs.Kept.{Keeps, fresh-well-formed, step-kept}
 use Rattle.promises.specs.Opening.{openingRefusal, openingReply, openingWords, OpeningPromise}
@@ -31,7 +31,7 @@ use Rattle.promises.specs.Stepping.{askedOf, resultOf, turnOf, stepWords
 -- A step that is refused: the words are as they were.
 pub record Stopped (words : List ℕ) (handler code value : ℕ) (after : List ℕ) : Type 0 where
   pub refusal : Refusal
-  pub turn : turnOf words handler code value ≡ refusedTurn (view (cellsOf words) (handlersOf words) words) refusal
+  pub turn : turnOf words handler code value ≡ refusedTurn (viewed words) refusal
   pub unchanged : after ≡ words
 
 -- A step that is taken: the words were well formed, and the rules' register stands in front of them.
@@ -39,8 +39,8 @@ pub record Taken (words : List ℕ) (handler code value : ℕ) (after : List ℕ
   pub what : Step
   pub free : Free (askedOf words handler code) what
   pub turn : turnOf words handler code value
-      ≡ takenTurn (wordSetting (cellsOf words)) (view (cellsOf words) (handlersOf words) words) handler code value what
-  pub holds : after ≡ holding words (cellsOf words) (handlersOf words) (resultOf words handler what value .after)
+      ≡ takenTurn (wordSetting (cellsOf words)) (viewed words) handler code value what
+  pub holds : after ≡ registerIn words (cellsOf words) (handlersOf words) (resultOf words handler what value .after)
 
 module _ {words : List ℕ} {handler code value : ℕ} {reply : Reply ℕ} {after : List ℕ} (p : StepPromise words handler code value reply after) where
   -- A step is refused or taken.
@@ -62,19 +62,19 @@ module _ {words : List ℕ} {handler code value : ℕ} {reply : Reply ℕ} {afte
     where
       ways : Stopped words handler code value after ⊎ Taken words handler code value after → Keeps words after
       ways (inl s) = rw (s .unchanged) (record { wellFormed = w; cellCount = refl; handlerCount = refl; size = refl })
-      ways (inr t) = rw (t .holds) (step-kept words w handler (t .free .placed .heard .handler) (t .what) (t .free .placed .cell) value)
+      ways (inr t) = rw (t .holds) (step-kept words w handler (t .free .fits .heard .handler) (t .what) (t .free .fits .cell) value)
 
   -- The words say the register that the rules leave.
-  pub step-says : view (cellsOf words) (handlersOf words) after ≡ turnOf words handler code value .after
+  pub step-says : view (cellsOf words) (handlersOf words) (bodyOf after) ≡ turnOf words handler code value .after
   step-says = ways stopped-or-taken
     where
       ways : Stopped words handler code value after ⊎ Taken words handler code value after
-          → view (cellsOf words) (handlersOf words) after ≡ turnOf words handler code value .after
+          → view (cellsOf words) (handlersOf words) (bodyOf after) ≡ turnOf words handler code value .after
       ways (inl s) = rw (s .unchanged, s .turn)
       ways (inr t) = rw (t .holds, t .turn) (view-pour _ _ _ _ confined)
         where
           confined : Confined (wordSetting (cellsOf words)) (handlersOf words) (resultOf words handler (t .what) value .after)
-          confined = step-confined _ _ _ (view-confined _ _ words) handler (t .free .placed .heard .handler) (t .what) (t .free .placed .cell) value
+          confined = step-confined _ _ _ (view-confined _ _ (bodyOf words)) handler (t .free .fits .heard .handler) (t .what) (t .free .fits .cell) value
 
   -- As many words as before.
   pub step-size : length after ≡ length words
@@ -82,7 +82,7 @@ module _ {words : List ℕ} {handler code value : ℕ} {reply : Reply ℕ} {afte
     where
       ways : Stopped words handler code value after ⊎ Taken words handler code value after → length after ≡ length words
       ways (inl s) = ap length (s .unchanged)
-      ways (inr t) = step-keeps (tested words .0 (t .free .placed .heard .wellFormed)) .size
+      ways (inr t) = step-keeps (tested words .0 (t .free .fits .heard .wellFormed)) .size
 
   -- Words beyond the register's length are never changed.
   pub step-beyond : drop (size (cellsOf words) (handlersOf words)) after ≡ drop (size (cellsOf words) (handlersOf words)) words
@@ -91,7 +91,7 @@ module _ {words : List ℕ} {handler code value : ℕ} {reply : Reply ℕ} {afte
       ways : Stopped words handler code value after ⊎ Taken words handler code value after
           → drop (size (cellsOf words) (handlersOf words)) after ≡ drop (size (cellsOf words) (handlersOf words)) words
       ways (inl s) = rw (s .unchanged)
-      ways (inr t) = rw (t .holds) (pour-holds (cellsOf words) (handlersOf words) (resultOf words handler (t .what) value .after) _ .beyond)
+      ways (inr t) = rw (t .holds) (register-beyond (cellsOf words) (handlersOf words) (resultOf words handler (t .what) value .after) words)
 
 -- ── Opening ───────────────────────────────────────────────────────────
 
@@ -114,24 +114,21 @@ pub record Ready (words : List ℕ) (m n : ℕ) (after : List ℕ) : Type 0 wher
   pub wellFormed : WellFormed after
   pub cellCount : cellsOf after ≡ m
   pub handlerCount : handlersOf after ≡ n
-  pub says : view m n after ≡ fresh (wordSetting m)
+  pub says : view m n (bodyOf after) ≡ fresh (wordSetting m)
   pub long : length after ≡ length words
   pub beyond : drop (size m n) after ≡ drop (size m n) words
 
 -- The words with a fresh register in front, where m and n are in range and the words are long enough.
 fresh-ready : (words : List ℕ) (m n : ℕ) → inRange m n ≡ true → size m n ≤ length words
-    → Ready words m n (holding words m n (fresh (wordSetting m)))
-fresh-ready words m n ranged fits =
-    let rest = drop (size m n) words in
-    let holds = pour-holds m n (fresh (wordSetting m)) rest in
-    record {
-      wellFormed = fresh-well-formed m n rest ranged;
-      cellCount = holds .cellCount;
-      handlerCount = holds .handlerCount;
-      says = view-pour m n (fresh (wordSetting m)) rest (fresh-confined (wordSetting m) n);
-      long = pour-over-length m n (fresh (wordSetting m)) words fits;
-      beyond = holds .beyond;
-    }
+    → Ready words m n (registerIn words m n (fresh (wordSetting m)))
+fresh-ready words m n ranged fits = record {
+  wellFormed = fresh-well-formed m n words ranged;
+  cellCount = refl;
+  handlerCount = refl;
+  says = view-pour m n (fresh (wordSetting m)) _ (fresh-confined (wordSetting m) n);
+  long = register-length m n (fresh (wordSetting m)) words fits;
+  beyond = register-beyond m n (fresh (wordSetting m)) words;
+}
 
 -- What an opening that is ready leaves.
 pub opening-ready : {words : List ℕ} {m n : ℕ} {after : List ℕ} → OpeningPromise words m n ready after → Ready words m n after

@@ -1,5 +1,4 @@
 -- The promises are tight, give each refusal exactly then, leave what the rules leave, and inherit the third demand.
-pub mod Tight
 pub mod Exactly
 pub mod Leaves
 pub mod OneBlock

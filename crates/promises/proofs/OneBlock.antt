@@ -1,18 +1,18 @@
 -- A begin or a write changes one handler's block, a part in the middle of the register, and no word outside it. So does a read.
 use Prim.Native.Nat.{ℕ, _+_, _≤_, _<_}
 use native.Mathlib.Omega.{arith}
-use mathlib.Core.Path.{_≡_, sym, ap, _∙_, subst, fun-ext}
-use mathlib.Core.List.{List}
+use mathlib.Core.Path.{_≡_, sym, ap, ap₂, _∙_, subst, fun-ext}
+use mathlib.Core.List.{List, [], _∷_, _++_}
 use lib.Dec.{eqb}
-use lib.ListN.{length, drop}
+use lib.ListN.{length, take, drop}
 use borrow.Author.Tests.{eqb-true, eqb-false}
-use Rattle.rules.specs.Tables.{put}
-use Rattle.rules.specs.Codes.{try}
-use Rattle.rules.specs.Register.{Handler, Register, withHandler}
-use Rattle.rules.proofs.Tables.{put-here, put-other, by}
-use Rattle.rules.proofs.Properties.{OneHandler, changes-one}
-use Rattle.layout.specs.Places.{cellsOf, handlersOf, size, handlerStart, handlerLong}
-use Rattle.layout.specs.View.{wordSetting, view, pourHandler, holding}
+use Rattle.rules.specs.steps.Tables.{put}
+use Rattle.rules.specs.steps.Codes.{try}
+use Rattle.rules.specs.steps.Register.{Handler, Register, withHandler}
+use Rattle.rules.proofs.steps.Tables.{put-here, put-other, by}
+use Rattle.rules.proofs.steps.Properties.{OneHandler, changes-one}
+use Rattle.layout.specs.Places.{cellsOf, handlersOf, bodyLong, bodyOf, handlerStart, handlerLong}
+use Rattle.layout.specs.View.{wordSetting, pourHandler, viewed, registerIn}
 use Rattle.layout.proofs.Tested.{tested}
 use Rattle.layout.proofs.PourView.{well-holds}
 use Rattle.layout.proofs.Holds.{Holds, holds-is}
@@ -21,6 +21,9 @@ use Rattle.layout.proofs.Blocks.{poured-handler}
 use Rattle.layout.proofs.OneHandler.{block-put}
 use Rattle.layout.specs.Rows.{splice}
 use Rattle.layout.proofs.Untouched.{Untouched, splice-untouched}
+use Rattle.layout.proofs.Fronts.{splice-behind, counts-front}
+use Rattle.layout.specs.WellFormed.{WellFormed}
+use Rattle.layout.proofs.Kept.{well-long}
 use Rattle.promises.specs.Stepping.{resultOf}
 use Rattle.promises.proofs.Leaves.{Taken}
 
@@ -36,28 +39,37 @@ one-handler-is {r = r} {q = q} {i = i} one = λ d. record { cells = one .cells d
 
 -- Of a step that is taken and is no try, no word outside the handler's block is another.
 pub block-only : {words : List ℕ} {handler code value : ℕ} {after : List ℕ} (t : Taken words handler code value after) → (t .what ≡ try → ⊥)
-    → Untouched (handlerStart (cellsOf words) handler) (handlerLong (cellsOf words)) words after
+    → Untouched (2 + handlerStart (cellsOf words) handler) (handlerLong (cellsOf words)) words after
 block-only {words} {handler} {value = value} {after = after} t no-try =
-    subst (Untouched (handlerStart m handler) (handlerLong m) words) (sym after-is)
-    (splice-untouched (handlerStart m handler) (handlerLong m) (pourHandler m new) words (poured-handler m new .size) fits)
+    subst (Untouched (2 + handlerStart m handler) (handlerLong m) words) (sym after-is)
+    (splice-untouched (2 + handlerStart m handler) (handlerLong m) (pourHandler m new) words (poured-handler m new .size) fits)
   where
     m : ℕ
     m = cellsOf words
 
-    inside : handler < handlersOf words
-    inside = t .free .placed .heard .handler
+    w : WellFormed words
+    w = tested words .0 (t .free .fits .heard .wellFormed)
 
-    holds : Holds m (handlersOf words) (view m (handlersOf words) words) (drop (size m (handlersOf words)) words) words
-    holds = well-holds words (tested words .0 (t .free .placed .heard .wellFormed))
+    inside : handler < handlersOf words
+    inside = t .free .fits .heard .handler
+
+    holds : Holds m (handlersOf words) (viewed words) (drop (bodyLong m (handlersOf words)) (bodyOf words)) (bodyOf words)
+    holds = well-holds (w .body)
 
     new : Handler ℕ
     new = resultOf words handler (t .what) value .after .handlers handler
 
-    fits : handlerStart m handler + handlerLong m ≤ length words
-    fits = omega (arith, handler-fits m (handlersOf words) handler inside, holds .fits)
+    fits : 2 + handlerStart m handler + handlerLong m ≤ length words
+    fits = omega (arith, handler-fits m (handlersOf words) handler inside, well-long w)
 
-    changed : resultOf words handler (t .what) value .after ≡ withHandler (view m (handlersOf words) words) handler new
-    changed = one-handler-is (changes-one (wordSetting m) (view m (handlersOf words) words) handler (t .what) value no-try)
+    changed : resultOf words handler (t .what) value .after ≡ withHandler (viewed words) handler new
+    changed = one-handler-is (changes-one (wordSetting m) (viewed words) handler (t .what) value no-try)
 
-    after-is : after ≡ splice (handlerStart m handler) (handlerLong m) (pourHandler m new) words
-    after-is = t .holds ∙ ap (holding words m (handlersOf words)) changed ∙ sym (holds-is (block-put holds handler new inside))
+    counts : take 2 words ≡ m ∷ handlersOf words ∷ []
+    counts = counts-front words (omega (arith, well-long w))
+
+    after-is : after ≡ splice (2 + handlerStart m handler) (handlerLong m) (pourHandler m new) words
+    after-is =
+        t .holds ∙ ap (registerIn words m (handlersOf words)) changed
+        ∙ ap₂ (λ (front body : List ℕ). front ++ body) (sym counts) (sym (holds-is (block-put holds handler new inside)))
+        ∙ splice-behind 2 (handlerStart m handler) (handlerLong m) (pourHandler m new) words

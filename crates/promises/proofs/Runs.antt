@@ -7,16 +7,16 @@ use mathlib.Core.List.{List, [], _∷_, _++_, append-nil, append-assoc}
 use mathlib.Core.Option.{none}
 use lib.ListN.{length}
 use borrow.Author.Tests.{le-ltb}
-use Rattle.rules.specs.Replies.{Reply, ready}
-use Rattle.rules.specs.Register.{Setting, fresh}
-use Rattle.rules.specs.Checks.{firstHit, openingChecks}
-use Rattle.rules.specs.Given.{InRange}
-use Rattle.rules.specs.Turn.{turn}
-use Rattle.rules.specs.History.{History, noHistory}
-use Rattle.rules.specs.Demand.{Ask, State, start, moved, run}
-use Rattle.rules.proofs.Given.{range-tested}
-use Rattle.layout.specs.Places.{cellsOf, handlersOf, size}
-use Rattle.layout.specs.View.{wordSetting, view, holding}
+use Rattle.rules.specs.steps.Replies.{Reply, ready}
+use Rattle.rules.specs.steps.Register.{Setting, fresh}
+use Rattle.rules.specs.steps.Checks.{firstHit, openingChecks}
+use Rattle.rules.specs.steps.Given.{InRange}
+use Rattle.rules.specs.steps.Turn.{turn}
+use Rattle.rules.specs.history.History.{History, noHistory}
+use Rattle.rules.specs.demand.Demand.{Ask, State, start, moved, run}
+use Rattle.rules.proofs.steps.Given.{range-tested}
+use Rattle.layout.specs.Places.{cellsOf, handlersOf, size, bodyOf}
+use Rattle.layout.specs.View.{wordSetting, view, registerIn}
 use Rattle.layout.specs.WellFormed.{WellFormed}
 use Rattle.layout.proofs.Tested.{tested}
 use Rattle.layout.proofs.Kept.{Keeps}
@@ -41,7 +41,7 @@ pub record FollowsRules (m n : ℕ) (asks : List (Ask ℕ)) (words : List ℕ) (
   pub wellFormed : WellFormed words
   pub cellCount : cellsOf words ≡ m
   pub handlerCount : handlersOf words ≡ n
-  pub says : view m n words ≡ byRules m n asks .register
+  pub says : view m n (bodyOf words) ≡ byRules m n asks .register
   pub history : h ≡ byRules m n asks .history
 
 -- Words that an opening left ready follow the rules.
@@ -60,13 +60,13 @@ opened-follows {m} {n} {words} {after} p = record {
 
 module _ {m n : ℕ} {asks : List (Ask ℕ)} {words : List ℕ} {h : History ℕ} (follows : FollowsRules m n asks words h) where
   -- The rules' turn on the words is their turn on the register that the words say.
-  turn-said : (i code v : ℕ) → turnOf words i code v ≡ turn (wordSetting m) n true (view m n words) i code v
+  turn-said : (i code v : ℕ) → turnOf words i code v ≡ turn (wordSetting m) n true (view m n (bodyOf words)) i code v
   unfolding turnOf
   turn-said i code v = rw (follows .cellCount, follows .handlerCount, tested words .1 (follows .wellFormed))
 
   -- Each reply is the rules' reply.
   pub rules-reply : {i code v : ℕ} {reply : Reply ℕ} {after : List ℕ} → StepPromise words i code v reply after
-      → reply ≡ turn (wordSetting m) n true (view m n words) i code v .reply
+      → reply ≡ turn (wordSetting m) n true (view m n (bodyOf words)) i code v .reply
   rules-reply {i} {code} {v} p = p .replied ∙ ap (λ t. t .reply) (turn-said i code v)
 
   -- One step more follows the rules.
@@ -88,8 +88,8 @@ module _ {m n : ℕ} {asks : List (Ask ℕ)} {words : List ℕ} {h : History ℕ
       next : byRules m n (asks ++ (a ∷ [])) ≡ moved (wordSetting m) n (byRules m n asks) a
       next = run-more (wordSetting m) n (start (wordSetting m)) asks a
 
-      said : view m n after ≡ turnOf words (a .handler) (a .code) (a .value) .after
-      said = ap₂ (λ cells handlers. view cells handlers after) (sym (follows .cellCount)) (sym (follows .handlerCount))
+      said : view m n (bodyOf after) ≡ turnOf words (a .handler) (a .code) (a .value) .after
+      said = ap₂ (λ cells handlers. view cells handlers (bodyOf after)) (sym (follows .cellCount)) (sym (follows .handlerCount))
           ∙ step-says p
 
 -- Every run of words follows the rules.
@@ -115,7 +115,7 @@ goes-on {m} {n} {done} ran (a ∷ asks) = subst (Ran m n) (append-assoc done (a 
 
 -- Words that are long enough, with m and n in range, are opened and ready.
 pub opens : (words : List ℕ) (m n : ℕ) → InRange m n → size m n ≤ length words
-    → OpeningPromise words m n ready (holding words m n (fresh (wordSetting m)))
+    → OpeningPromise words m n ready (registerIn words m n (fresh (wordSetting m)))
 unfolding openingRefusal openingChecks firstHit openingReply openingWords
 opens words m n ranged fits = record { replied = rw passes; left = rw passes }
   where

@@ -3,15 +3,15 @@
 use Prim.Native.Nat.{ℕ, _+_}
 use mathlib.Core.Path.{_≡_, sym, ap, _∙_}
 use mathlib.Core.List.{List}
-use Rattle.rules.specs.Replies.{torn, Outcome, value, aborted, Reply}
-use Rattle.rules.specs.History.{History, writer}
-use Rattle.rules.specs.Past.{Tears}
-use Rattle.rules.specs.Demand.{Ask, reportedTo, FirstRead}
-use Rattle.rules.proofs.Properties.{value-no-abort}
-use Rattle.rules.proofs.ExactAborts.{outcomeIn}
-use Rattle.rules.proofs.CaseHistories.{reached, Answered}
-use Rattle.rules.proofs.CasesComputed.{k8, k8-answered, k10, k10-answered}
-use Rattle.rules.proofs.CasesDemanded.{first-read}
+use Rattle.rules.specs.steps.Replies.{torn, Outcome, value, aborted, Reply}
+use Rattle.rules.specs.history.History.{History, writer}
+use Rattle.rules.specs.history.Past.{Tears}
+use Rattle.rules.specs.demand.Demand.{Ask, reportedTo, FirstRead}
+use Rattle.rules.proofs.steps.Properties.{value-no-abort}
+use Rattle.rules.proofs.demand.ExactAborts.{outcomeIn}
+use Rattle.rules.proofs.demand.CaseHistories.{reached, Answered}
+use Rattle.rules.proofs.demand.CasesComputed.{k8, k8-answered, k10, k10-answered}
+use Rattle.rules.proofs.demand.CasesDemanded.{first-read}
 use Rattle.layout.specs.View.{wordSetting}
 use Rattle.promises.specs.Stepping.{StepPromise}
 use Rattle.promises.specs.Runs.{WordRun}

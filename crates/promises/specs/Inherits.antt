@@ -6,26 +6,26 @@ use mathlib.Core.Bool.{true}
 use mathlib.Core.List.{List}
 use mathlib.Core.Logic.{_↔_}
 use lib.ListN.{getD}
-use Rattle.rules.specs.Codes.{known, try, kindOf}
-use Rattle.rules.specs.Replies.{torn, overtaken, aborted, Reply}
-use Rattle.rules.specs.History.{History, writer}
-use Rattle.rules.specs.Past.{Tears, upTo}
-use Rattle.rules.specs.Replay.{Legal}
-use Rattle.rules.specs.Demand.{Ask, reportedTo, FirstRead}
-use Rattle.rules.specs.Judge.{numberAmong, judgement, Overtaken}
+use Rattle.rules.specs.steps.Codes.{known, try, plainSheet}
+use Rattle.rules.specs.steps.Replies.{torn, overtaken, aborted, Reply}
+use Rattle.rules.specs.history.History.{History, writer}
+use Rattle.rules.specs.history.Past.{Tears, upTo}
+use Rattle.rules.specs.history.Replay.{Legal}
+use Rattle.rules.specs.demand.Demand.{Ask, reportedTo, FirstRead}
+use Rattle.rules.specs.demand.Judge.{numberAmong, judgement, Overtaken}
 use Rattle.layout.specs.Rows.{below}
-use Rattle.layout.specs.Places.{cellStart}
+use Rattle.layout.specs.Places.{bodyOf, cellStart}
 use Rattle.layout.specs.View.{wordSetting}
 use Rattle.promises.specs.Stepping.{StepPromise}
 use Rattle.promises.specs.Runs.{WordRun}
 
 -- The value of each of m cells, which is the first of the cell's words; 0 beyond the cells.
 unfoldable pub cellValues : ℕ → List ℕ → ℕ → ℕ
-cellValues m words = below m 0 (λ x. getD words (cellStart m x) 0)
+cellValues m words = below m 0 (λ x. getD (bodyOf words) (cellStart m x) 0)
 
 -- The cell x's number for y, which stands behind the value.
 abbrev pub numberWord : ℕ → List ℕ → ℕ → ℕ → ℕ
-numberWord m words x y = getD words (cellStart m x + (1 + y)) 0
+numberWord m words x y = getD (bodyOf words) (cellStart m x + (1 + y)) 0
 
 -- Words and a history agree with the third demand:
 pub record WordsConsistent (m n : ℕ) (words : List ℕ) (h : History ℕ) : Type 0 where
@@ -40,7 +40,7 @@ pub record WordsConsistent (m n : ℕ) (words : List ℕ) (h : History ℕ) : Ty
   pub replies : {i code v : ℕ} {reply : Reply ℕ} {after : List ℕ} → StepPromise words i code v reply after
       → reply ≡ judgement (wordSetting m) n h i code
   -- a try is answered abort 2 exactly when a version read is no longer the present one;
-  pub overtakenExactly : {i code v : ℕ} {reply : Reply ℕ} {after : List ℕ} → i < n → kindOf code ≡ known try → h .opened i ≡ true
+  pub overtakenExactly : {i code v : ℕ} {reply : Reply ℕ} {after : List ℕ} → i < n → plainSheet code ≡ known try → h .opened i ≡ true
       → StepPromise words i code v reply after
       → (reply ≡ reportedTo i code (aborted overtaken)) ↔ Overtaken (h .commits) (h .now i)
   -- and a cell's number for y is that of the latest version of y in the cell's writer and that one's past

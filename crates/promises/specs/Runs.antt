@@ -2,16 +2,16 @@
 -- is noted from what is asked for and what is replied; no word is looked at, and nothing is assumed of what the words say.
 use Prim.Native.Nat.{ℕ}
 use mathlib.Core.List.{List, [], _∷_, _++_}
-use Rattle.rules.specs.Codes.{kindOf}
-use Rattle.rules.specs.Replies.{Reply, ready}
-use Rattle.rules.specs.History.{History, noHistory, noteReply}
-use Rattle.rules.specs.Demand.{Ask}
+use Rattle.rules.specs.steps.Codes.{plainSheet}
+use Rattle.rules.specs.steps.Replies.{Reply, ready}
+use Rattle.rules.specs.history.History.{History, noHistory, noteReply}
+use Rattle.rules.specs.demand.Demand.{Ask}
 use Rattle.promises.specs.Opening.{OpeningPromise}
 use Rattle.promises.specs.Stepping.{StepPromise}
 
 -- The history after a step was asked for and got its reply.
 abbrev pub noted : History ℕ → Ask ℕ → Reply ℕ → History ℕ
-noted h a reply = noteReply h (a .handler) (kindOf (a .code)) (a .value) reply
+noted h a reply = noteReply h (a .handler) (plainSheet (a .code)) (a .value) reply
 
 -- A run of words for m cells and n handlers: the steps asked for, the first one first, the words that they left, and the history.
 pub data WordRun (m n : ℕ) : List (Ask ℕ) → List ℕ → History ℕ → Type 0 where

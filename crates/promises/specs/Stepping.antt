@@ -1,41 +1,50 @@
 -- What a step promises, for all words, handlers, codes and values: its reply, and every word afterwards.
 use Prim.Native.Nat.{ℕ}
-use mathlib.Core.Path.{_≡_}
 use mathlib.Core.List.{List}
-use Rattle.rules.specs.Replies.{Reply, reported}
-use Rattle.rules.specs.Register.{Register}
-use Rattle.rules.specs.Codes.{Step}
-use Rattle.rules.specs.Checks.{Asked}
-use Rattle.rules.specs.Figure.{Result, step}
-use Rattle.rules.specs.Turn.{Turn, asked, turn}
+use Rattle.rules.specs.Promise.{Due, Promise}
+use Rattle.rules.specs.steps.Replies.{Reply, reported}
+use Rattle.rules.specs.steps.Register.{Register}
+use Rattle.rules.specs.steps.Codes.{Step}
+use Rattle.rules.specs.steps.Checks.{Asked}
+use Rattle.rules.specs.steps.Figure.{Result, step}
+use Rattle.rules.specs.steps.Turn.{Turn, asked, turn}
 use Rattle.layout.specs.Places.{cellsOf, handlersOf}
-use Rattle.layout.specs.View.{wordSetting, view, holding}
+use Rattle.layout.specs.View.{wordSetting, viewed, registerIn}
 use Rattle.layout.specs.WellFormed.{isWellFormed}
 
 -- What is asked of the register that the words say.
 abbrev pub askedOf : List ℕ → ℕ → ℕ → Asked
 askedOf words handler code =
-    let m = cellsOf words in
-    let n = handlersOf words in
-    asked (wordSetting m) n (isWellFormed words) (view m n words) handler code
+    asked (wordSetting (cellsOf words)) (handlersOf words) (isWellFormed words) (viewed words) handler code
 
 -- The rules' result of a step on the register that the words say.
 abbrev pub resultOf : List ℕ → ℕ → Step → ℕ → Result ℕ
-resultOf words handler s value = step (wordSetting (cellsOf words)) (view (cellsOf words) (handlersOf words) words) handler s value
+resultOf words handler s value = step (wordSetting (cellsOf words)) (viewed words) handler s value
 
 -- The rules' turn on the register that the words say.
 unfoldable pub turnOf : List ℕ → ℕ → ℕ → ℕ → Turn ℕ
 turnOf words handler code value =
-    let m = cellsOf words in
-    let n = handlersOf words in
-    turn (wordSetting m) n (isWellFormed words) (view m n words) handler code value
+    turn (wordSetting (cellsOf words)) (handlersOf words) (isWellFormed words) (viewed words) handler code value
 
 -- The words after a step: a refusal changes nothing, and else they hold the rules' register.
 unfoldable pub stepWords : List ℕ → Reply ℕ → Register ℕ → List ℕ
 stepWords words (Reply.refused refusal) r = words
-stepWords words (reported report) r = holding words (cellsOf words) (handlersOf words) r
+stepWords words (reported report) r = registerIn words (cellsOf words) (handlersOf words) r
+
+-- What a step is given: words, the handler that asks, a code, and a value where it is a write.
+pub record StepCall : Type 0 where
+  pub words : List ℕ
+  pub handler : ℕ
+  pub code : ℕ
+  pub value : ℕ
+
+-- What a step comes to.
+abbrev pub stepping : StepCall → Due (Reply ℕ) (List ℕ)
+stepping call =
+    let t = turnOf (call .words) (call .handler) (call .code) (call .value) in
+    record { reply = t .reply; leaves = stepWords (call .words) (t .reply) (t .after) }
 
 -- The promise of a step.
-pub record StepPromise (words : List ℕ) (handler code value : ℕ) (reply : Reply ℕ) (after : List ℕ) : Type 0 where
-  pub replied : reply ≡ turnOf words handler code value .reply
-  pub left : after ≡ stepWords words (turnOf words handler code value .reply) (turnOf words handler code value .after)
+abbrev pub StepPromise : List ℕ → ℕ → ℕ → ℕ → Reply ℕ → List ℕ → Type 0
+StepPromise words handler code value reply after =
+    Promise stepping (record { words = words; handler = handler; code = code; value = value }) reply after

@@ -1,54 +1,48 @@
--- A step by its ways: what the checks refuse is refused and changes nothing, and what they let through is taken.
+-- A step on whole words by its ways: words that are no register are refused, and else what the body promises the words promise.
 use Prim.Native.Nat.{ℕ}
-use mathlib.Core.Path.{_≡_, ap, _∙_}
-use mathlib.Core.List.{List}
-use mathlib.Core.Option.{none, some}
-use Rattle.rules.specs.Codes.{Step, known, kindOf}
-use Rattle.rules.specs.Replies.{Refusal, Outcome, Reply, reported}
-use Rattle.rules.specs.Checks.{firstHit, stepChecks}
-use Rattle.rules.proofs.Given.{given-exactly, free-exactly}
-use Rattle.rules.proofs.Turns.{refusedTurn, takenTurn, given-turn, free-turn}
-use Rattle.layout.specs.Places.{cellsOf}
-use Rattle.layout.specs.View.{wordSetting}
+use native.Mathlib.Omega.{arith}
+use mathlib.Core.Path.{_≡_, refl, ap, _∙_}
+use mathlib.Core.Bool.{true, false}
+use mathlib.Core.List.{List, _∷_}
+use Rattle.rules.specs.steps.Codes.{plainSheet}
+use Rattle.rules.specs.steps.Register.{Register}
+use Rattle.rules.specs.steps.Replies.{notWellFormed, Reply, reported}
+use Rattle.rules.specs.steps.Checks.{firstHit, stepChecks}
+use Rattle.rules.specs.steps.Turn.{Turn, stepRefusal, turned, turn}
+use Rattle.layout.specs.Places.{cellsOf, handlersOf, bodyOf}
+use Rattle.layout.specs.WellFormed.{WellFormed, isWellFormed}
+use Rattle.layout.proofs.Kept.{well-long}
+use Rattle.layout.proofs.Fronts.{register-front}
 use Rattle.layout.proofs.Tested.{tested}
-use Rattle.promises.specs.Stepping.{askedOf, turnOf, stepWords, StepPromise}
-use Rattle.turns.proofs.Lent.{seats}
-use Rattle.turns.specs.Takes.{viewed, Ready, Takes}
+use Rattle.promises.specs.Stepping.{turnOf, stepWords, StepPromise}
+use Rattle.promises.specs.Bodies.{bodyTurn, bodyWords, BodyPromise}
+use Rattle.steps.specs.Takes.{WholeBody}
+
+-- Well-formed words have such a body.
+pub stands : {words : List ℕ} → WellFormed words → WholeBody (cellsOf words) (handlersOf words) (bodyOf words)
+stands w = record { formed = record { good = w .body; few = w .range .cells }; most = w .range .handlers; phases = w .phases }
 
 module _ (words : List ℕ) (handler code value : ℕ) where
-  -- What the checks refuse.
-  pub step-stops : (refusal : Refusal) → firstHit (stepChecks (askedOf words handler code)) ≡ some refusal
-      → StepPromise words handler code value (Reply.refused refusal) words
-  unfolding turnOf stepWords
-  step-stops refusal e =
-      let given = given-exactly (askedOf words handler code) refusal .0 e in
-      let turn : turnOf words handler code value ≡ refusedTurn (viewed words) refusal = given-turn _ _ _ _ _ _ value refusal given in
-      record { replied = rw turn; left = rw turn }
+  -- Words that are no register are refused.
+  pub malformed-stops : isWellFormed words ≡ false → StepPromise words handler code value (Reply.refused notWellFormed) words
+  unfolding turnOf stepWords turn stepRefusal turned firstHit stepChecks
+  malformed-stops malformed = record { replied = rw malformed; left = rw malformed }
 
-  -- What the checks let through is ready to be taken.
-  pub step-ready : firstHit (stepChecks (askedOf words handler code)) ≡ none → (s : Step) × (kindOf code ≡ known s) × Ready words (cellsOf words) handler s
-  step-ready e =
-      let (s, free) = free-exactly (askedOf words handler code) .0 e in (
-        s,
-        free .placed .heard .known,
-        record {
-          seated = seats (tested words .0 (free .placed .heard .wellFormed)) (free .placed .heard .handler);
-          cell = free .placed .cell;
-          phase = free .phase;
-        },
-      )
+  -- What the body promises the words promise, with m and n in front.
+  pub body-steps : isWellFormed words ≡ true → {reply : Reply ℕ} {after : List ℕ}
+      → BodyPromise plainSheet (cellsOf words) (handlersOf words) (bodyOf words) handler code value reply after
+      → StepPromise words handler code value reply (cellsOf words ∷ handlersOf words ∷ after)
+  unfolding turnOf bodyTurn bodyWords stepWords
+  body-steps formed p = record {
+    replied = p .replied ∙ rw formed;
+    left = ap (λ body. cellsOf words ∷ handlersOf words ∷ body) (p .left)
+        ∙ fronted (taken .reply) (taken .after) ∙ rw formed;
+  }
+    where
+      taken : Turn ℕ
+      taken = bodyTurn plainSheet (cellsOf words) (handlersOf words) (bodyOf words) handler code value
 
-  -- What is taken is reported.
-  pub step-takes : firstHit (stepChecks (askedOf words handler code)) ≡ none → {outcome : Outcome ℕ} {after : List ℕ}
-      → ((s : Step) → kindOf code ≡ known s → Takes words handler s value outcome after)
-      → StepPromise words handler code value (reported (record { handler = handler; code = code; outcome = outcome })) after
-  unfolding turnOf stepWords
-  step-takes e {outcome} takes =
-      let (s, free) = free-exactly (askedOf words handler code) .0 e in
-      let turn : turnOf words handler code value ≡ takenTurn (wordSetting (cellsOf words)) (viewed words) handler code value s
-      = free-turn _ _ _ _ _ _ value s free in
-      let taken = takes s (free .placed .heard .known) in
-      record {
-        replied = ap (λ o. reported (record { handler = handler; code = code; outcome = o })) (taken .replied) ∙ rw turn;
-        left = taken .left ∙ rw turn;
-      }
+      fronted : (reply : Reply ℕ) (r : Register ℕ)
+          → cellsOf words ∷ handlersOf words ∷ bodyWords (cellsOf words) (handlersOf words) (bodyOf words) reply r ≡ stepWords words reply r
+      fronted (Reply.refused refusal) r = register-front words (omega (arith, well-long (tested words .0 formed)))
+      fronted (reported report) r = refl

@@ -1,2 +1,3 @@
--- What the enum of this crate means, and what is asked of words.
+-- What the enum of this crate means, and what is shown of a cell.
 pub mod Meaning
+pub mod Ending

@@ -1,20 +1,16 @@
-// A transactional register over words that the caller lends: opening it, and steps of its handlers.
+// A transactional register over words that the caller lends: opening it, steps of its handlers, and what is shown of a cell.
 // PUBLIC: nothing here has a `requires`. Each promise fixes the reply and every word of the buffer, for all inputs.
-mod refusal;
-mod take;
-
 ghost use Rattle.promises.specs.Opening.{OpeningPromise};
 ghost use Rattle.promises.specs.Stepping.{StepPromise};
 ghost use Rattle.promises.specs.Lengths.{LengthPromise};
-ghost use Rattle.replies.specs.Meaning.{replyOf, openingOf};
+ghost use Rattle.replies.specs.Meaning.{replyIs, openingIs};
+ghost use Rattle.replies.specs.Ends.{endIs};
 ghost use Rattle.register.specs.Meaning.{neededIs};
-use crate::refusal::refusal_of;
-use crate::take::take;
+ghost use Rattle.register.specs.Ending.{EndPromise};
 use replies::Answer;
+use replies::End;
 use replies::Opened;
 use replies::Refusal;
-use replies::Report;
-use steps::Verdict;
 
 // How many words a register needs, if m and n are in range.
 pub enum Needed {
@@ -26,50 +22,70 @@ pub enum Needed {
 pub fn words_needed(m: u32, n: u32) -> Needed
     ensures { λ r. ⌜ LengthPromise m n (neededIs r) ⌝ }
 {
-    if !formed::in_range(m, n) {
+    if !limits::in_range(m, n) {
         return Needed::Nothing;
     }
     let cells = m as usize;
     let handlers = n as usize;
-    Needed::Words(formed::words_for(cells, handlers))
+    Needed::Words(limits::FRONT + places::body_words(cells, handlers))
 }
 
 // Opens a register of m cells and n handlers in front of the words.
 pub fn open(words: &mut [u32], m: u32, n: u32) -> Opened
-    ensures { λ r. ⌜ OpeningPromise (now (words .entry)) m n (openingOf r) (now (words .exit)) ⌝ }
+    ensures { λ r. ⌜ OpeningPromise (now (words .entry)) m n (openingIs r) (now (words .exit)) ⌝ }
 {
-    if !formed::in_range(m, n) {
+    if !limits::in_range(m, n) {
         return Opened::Rejected(Refusal::OutOfRange);
     }
     let cells = m as usize;
     let handlers = n as usize;
-    let need = formed::words_for(cells, handlers);
-    if words.len() < need {
+    let long = places::body_words(cells, handlers);
+    if words.len() < limits::FRONT + long {
         return Opened::Rejected(Refusal::TooShort);
     }
-    words::clear(words, 2, need - 2);
-    words[0] = m;
-    words[1] = n;
+    words::clear(&mut words[limits::FRONT..], 0, long);
+    words[places::CELLS] = m;
+    words[places::HANDLERS] = n;
     Opened::Ready
 }
 
 // Takes the step of a handler, or refuses it.
 pub fn step(words: &mut [u32], handler: u32, code: u32, value: u32) -> Answer
-    ensures { λ r. ⌜ StepPromise (now (words .entry)) handler code value (replyOf r) (now (words .exit)) ⌝ }
+    ensures { λ r. ⌜ StepPromise (now (words .entry)) handler code value (replyIs r) (now (words .exit)) ⌝ }
 {
-    let kind = steps::kind_of(code);
-    let verdict = refusal_of(words, handler, kind);
-    match verdict {
-        Verdict::Refuses(refusal) => Answer::Refused(refusal),
-        Verdict::Passes => {
-            let m = words[0] as usize;
-            let i = handler as usize;
-            let outcome = take(words, m, i, kind, value);
-            Answer::Reported(Report {
-                handler,
-                code,
-                outcome,
-            })
-        }
+    if !formed::well_formed(words) {
+        return Answer::Refused(Refusal::NotWellFormed);
+    }
+    let m = words[places::CELLS] as usize;
+    let n = words[places::HANDLERS] as usize;
+    let kind = checks::kind_of(code);
+    turns::turn(
+        &mut words[limits::FRONT..],
+        m,
+        n,
+        handler,
+        code,
+        kind,
+        value,
+    )
+}
+
+// A cell's value and own number.
+pub fn cell_end(words: &[u32], c: u32) -> End
+    ensures { λ r. ⌜ EndPromise (now (words .entry)) c (endIs r) ⌝ }
+{
+    if !formed::well_formed(words) {
+        return End::Missing;
+    }
+    if words[places::CELLS] <= c {
+        return End::Missing;
+    }
+    let m = words[places::CELLS] as usize;
+    let k = c as usize;
+    let span = places::cell_at(m, k);
+    let start = limits::FRONT + span.start;
+    End::Cell {
+        value: words[start + places::VALUE],
+        number: words[start + places::NUMBERS + k],
     }
 }

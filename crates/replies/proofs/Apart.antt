@@ -1,8 +1,11 @@
--- Nothing is lost in what a reply means: different answers are different replies of the rules. Each meaning can be read back.
+-- Nothing is lost in what a reply means, nor in what is shown of a cell: different answers are different replies of the rules, and
+-- different ends different lines. Each meaning can be read back.
 use Prim.Native.Nat.{ℕ}
 use mathlib.Core.Path.{_≡_, refl, ap}
-use Rattle.rules.specs.Replies as Rules
-use Rattle.rules.proofs.Numbers.{Injective, read-back}
+use mathlib.Core.Option.{Option, none, some}
+use Rattle.rules.specs.steps.Replies as Rules
+use Rattle.rules.proofs.Determined.{Determined, determined}
+use Rattle.rules.proofs.steps.Numbers.{Injective, read-back}
 use Rattle.replies.specs.declared.Reason.{Reason}
 use Rattle.replies.specs.declared.Reason.the-variants.{Torn, Overtaken, Spent}
 use Rattle.replies.specs.declared.Outcome.{Outcome}
@@ -14,7 +17,10 @@ use Rattle.replies.specs.declared.Answer.{Answer}
 use Rattle.replies.specs.declared.Answer.the-variants.{Reported, Refused}
 use Rattle.replies.specs.declared.Opened.{Opened}
 use Rattle.replies.specs.declared.Opened.the-variants.{Ready, Rejected}
-use Rattle.replies.specs.Meaning.{reasonOf, outcomeOf, refusalOf, replyOf, openingOf}
+use Rattle.replies.specs.declared.End.{End}
+use Rattle.replies.specs.declared.End.the-variants.{Cell, Missing}
+use Rattle.replies.specs.Meaning.{reasonIs, outcomeIs, refusalIs, replyIs, openingIs}
+use Rattle.replies.specs.Ends.{CellLine, endIs}
 
 -- ── Reading back ──────────────────────────────────────────────────────
 
@@ -50,22 +56,26 @@ openedBack : Rules.Opening → Opened
 openedBack Rules.ready = Ready
 openedBack (Rules.Opening.refused refusal) = Rejected (refusalBack refusal)
 
+endBack : Option CellLine → End
+endBack (some line) = Cell (line .value) (line .number)
+endBack none = Missing
+
 -- ── What is read back is what was said ────────────────────────────────
 
-reason-same : (reason : Reason) → reasonBack (reasonOf reason) ≡ reason
+reason-same : (reason : Reason) → reasonBack (reasonIs reason) ≡ reason
 unfolding reasonBack
 reason-same Torn = refl
 reason-same Overtaken = refl
 reason-same Spent = refl
 
-outcome-same : (outcome : Outcome) → outcomeBack (outcomeOf outcome) ≡ outcome
+outcome-same : (outcome : Outcome) → outcomeBack (outcomeIs outcome) ≡ outcome
 unfolding outcomeBack
 outcome-same Done = refl
 outcome-same (Value v) = refl
 outcome-same Committed = refl
 outcome-same (Aborted reason) = ap Aborted (reason-same reason)
 
-pub refusal-same : (refusal : Refusal) → refusalBack (refusalOf refusal) ≡ refusal
+pub refusal-same : (refusal : Refusal) → refusalBack (refusalIs refusal) ≡ refusal
 unfolding refusalBack
 refusal-same NotWellFormed = refl
 refusal-same NoHandler = refl
@@ -79,26 +89,49 @@ refusal-same BadFile = refl
 refusal-same UsedUp = refl
 refusal-same TooManyCommits = refl
 
-pub answer-same : (answer : Answer) → answerBack (replyOf answer) ≡ answer
+pub answer-same : (answer : Answer) → answerBack (replyIs answer) ≡ answer
 unfolding answerBack
 answer-same (Reported report) = ap (λ o. Reported (record { handler = report .handler; code = report .code; outcome = o })) (outcome-same (report .outcome))
 answer-same (Refused refusal) = ap Refused (refusal-same refusal)
 
-opened-same : (opened : Opened) → openedBack (openingOf opened) ≡ opened
+opened-same : (opened : Opened) → openedBack (openingIs opened) ≡ opened
 unfolding openedBack
 opened-same Ready = refl
 opened-same (Rejected refusal) = ap Rejected (refusal-same refusal)
 
+end-same : (end : End) → endBack (endIs end) ≡ end
+unfolding endBack
+end-same (Cell value number) = refl
+end-same Missing = refl
+
 -- ── No two are the same ───────────────────────────────────────────────
 
 -- Different outcomes differ in the rules.
-pub outcomes-apart : Injective outcomeOf
-outcomes-apart = read-back outcomeOf outcomeBack outcome-same
+pub outcomes-apart : Injective outcomeIs
+outcomes-apart = read-back outcomeIs outcomeBack outcome-same
 
 -- Different answers to a step differ in the rules.
-pub answers-apart : Injective replyOf
-answers-apart = read-back replyOf answerBack answer-same
+pub answers-apart : Injective replyIs
+answers-apart = read-back replyIs answerBack answer-same
 
 -- Different answers to an opening differ in the rules.
-pub openings-apart : Injective openingOf
-openings-apart = read-back openingOf openedBack opened-same
+pub openings-apart : Injective openingIs
+openings-apart = read-back openingIs openedBack opened-same
+
+-- Different ends are different lines, or one is none.
+pub ends-apart : Injective endIs
+ends-apart = read-back endIs endBack end-same
+
+-- ── One outcome ───────────────────────────────────────────────────────
+
+-- Whatever answers a step, its promise allows one answer, and one thing left.
+pub answer-determined : Determined replyIs
+answer-determined = determined answers-apart
+
+-- Whatever is opened, its promise allows one answer, and one thing left.
+pub opened-determined : Determined openingIs
+opened-determined = determined openings-apart
+
+-- Whatever shows a cell's end, its promise allows one.
+pub end-determined : Determined endIs
+end-determined = determined ends-apart

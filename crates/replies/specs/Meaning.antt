@@ -1,7 +1,7 @@
 -- What each reply of this crate is in the rules: a definition for each kind of answer, case by case. Numbers and values come from
 -- the rules.
 use Prim.Native.Nat.{ℕ}
-use Rattle.rules.specs.Replies as Rules
+use Rattle.rules.specs.steps.Replies as Rules
 use Rattle.replies.specs.declared.Reason.{Reason}
 use Rattle.replies.specs.declared.Reason.the-variants.{Torn, Overtaken, Spent}
 use Rattle.replies.specs.declared.Outcome.{Outcome}
@@ -15,38 +15,38 @@ use Rattle.replies.specs.declared.Opened.{Opened}
 use Rattle.replies.specs.declared.Opened.the-variants.{Ready, Rejected}
 
 -- The rules' reason.
-abbrev pub reasonOf : Reason → Rules.Reason
-reasonOf Torn = Rules.torn
-reasonOf Overtaken = Rules.overtaken
-reasonOf Spent = Rules.spent
+abbrev pub reasonIs : Reason → Rules.Reason
+reasonIs Torn = Rules.torn
+reasonIs Overtaken = Rules.overtaken
+reasonIs Spent = Rules.spent
 
 -- The rules' outcome.
-abbrev pub outcomeOf : Outcome → Rules.Outcome ℕ
-outcomeOf Done = Rules.ok
-outcomeOf (Value v) = Rules.value v
-outcomeOf Committed = Rules.committed
-outcomeOf (Aborted reason) = Rules.aborted (reasonOf reason)
+abbrev pub outcomeIs : Outcome → Rules.Outcome ℕ
+outcomeIs Done = Rules.ok
+outcomeIs (Value v) = Rules.value v
+outcomeIs Committed = Rules.committed
+outcomeIs (Aborted reason) = Rules.aborted (reasonIs reason)
 
 -- The rules' refusal.
-abbrev pub refusalOf : Refusal → Rules.Refusal
-refusalOf NotWellFormed = Rules.notWellFormed
-refusalOf NoHandler = Rules.noHandler
-refusalOf NoCell = Rules.noCell
-refusalOf AlreadyOpen = Rules.alreadyOpen
-refusalOf NotOpen = Rules.notOpen
-refusalOf UnknownStep = Rules.unknownStep
-refusalOf OutOfRange = Rules.outOfRange
-refusalOf TooShort = Rules.tooShort
-refusalOf BadFile = Rules.badFile
-refusalOf UsedUp = Rules.usedUp
-refusalOf TooManyCommits = Rules.tooManyCommits
+abbrev pub refusalIs : Refusal → Rules.Refusal
+refusalIs NotWellFormed = Rules.notWellFormed
+refusalIs NoHandler = Rules.noHandler
+refusalIs NoCell = Rules.noCell
+refusalIs AlreadyOpen = Rules.alreadyOpen
+refusalIs NotOpen = Rules.notOpen
+refusalIs UnknownStep = Rules.unknownStep
+refusalIs OutOfRange = Rules.outOfRange
+refusalIs TooShort = Rules.tooShort
+refusalIs BadFile = Rules.badFile
+refusalIs UsedUp = Rules.usedUp
+refusalIs TooManyCommits = Rules.tooManyCommits
 
 -- The rules' reply to a step.
-abbrev pub replyOf : Answer → Rules.Reply ℕ
-replyOf (Reported report) = Rules.reported (record { handler = report .handler; code = report .code; outcome = outcomeOf (report .outcome) })
-replyOf (Refused refusal) = Rules.Reply.refused (refusalOf refusal)
+abbrev pub replyIs : Answer → Rules.Reply ℕ
+replyIs (Reported report) = Rules.reported (record { handler = report .handler; code = report .code; outcome = outcomeIs (report .outcome) })
+replyIs (Refused refusal) = Rules.Reply.refused (refusalIs refusal)
 
 -- The rules' reply to an opening.
-abbrev pub openingOf : Opened → Rules.Opening
-openingOf Ready = Rules.ready
-openingOf (Rejected refusal) = Rules.Opening.refused (refusalOf refusal)
+abbrev pub openingIs : Opened → Rules.Opening
+openingIs Ready = Rules.ready
+openingIs (Rejected refusal) = Rules.Opening.refused (refusalIs refusal)

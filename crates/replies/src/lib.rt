@@ -1,7 +1,8 @@
-// The replies of a register, as its callers see them: a report with an outcome with a reason, or a refusal; and their numbers.
+// The replies of a register, as its callers see them: a report with an outcome with a reason, or a refusal; their numbers; and what is
+// shown of a cell at the end.
 ghost use mathlib.Core.Path.{_≡_};
-ghost use Rattle.rules.specs.Replies.{reasonNumber, refusalNumber};
-ghost use Rattle.replies.specs.Meaning.{reasonOf, refusalOf};
+ghost use Rattle.rules.specs.steps.Replies.{reasonNumber, refusalNumber};
+ghost use Rattle.replies.specs.Meaning.{reasonIs, refusalIs};
 
 // Why a transaction was aborted.
 pub enum Reason {
@@ -52,9 +53,15 @@ pub enum Opened {
     Rejected(Refusal),
 }
 
+// What is shown of a cell at the end, if there is such a cell.
+pub enum End {
+    Cell { value: u32, number: u32 },
+    Missing,
+}
+
 // The number of a reason.
 pub fn reason_number(reason: Reason) -> u32
-    ensures { λ r. ⌜ r ≡ reasonNumber (reasonOf reason) ⌝ }
+    ensures { λ r. ⌜ r ≡ reasonNumber (reasonIs reason) ⌝ }
 {
     match reason {
         Reason::Torn => 1,
@@ -65,7 +72,7 @@ pub fn reason_number(reason: Reason) -> u32
 
 // The number of a refusal.
 pub fn refusal_number(refusal: Refusal) -> u32
-    ensures { λ r. ⌜ r ≡ refusalNumber (refusalOf refusal) ⌝ }
+    ensures { λ r. ⌜ r ≡ refusalNumber (refusalIs refusal) ⌝ }
 {
     match refusal {
         Refusal::NotWellFormed => 10,

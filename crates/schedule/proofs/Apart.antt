@@ -1,22 +1,23 @@
--- Nothing is lost in what the answers mean: different answers are different judgements, refusals and steps. Each can be read back.
+-- Nothing is lost in what the answers mean: different answers are different admissions, refusals and steps. Each can be read back.
 use mathlib.Core.Path.{_≡_, refl, ap}
 use mathlib.Core.Option.{Option, none, some}
-use Rattle.rules.specs.Replies as Rules
-use Rattle.rules.proofs.Numbers.{Injective, read-back}
+use Rattle.rules.specs.steps.Replies as Rules
+use Rattle.rules.proofs.Determined.{Determined, determined}
+use Rattle.rules.proofs.steps.Numbers.{Injective, read-back}
 use Rattle.replies.proofs.Apart.{refusalBack, refusal-same}
-use Rattle.schedule.specs.Judging as Judging
+use Rattle.schedule.specs.Admitting as Admitting
 use Rattle.schedule.specs.Taking as Taking
-use Rattle.schedule.specs.declared.Judged.{Judged}
-use Rattle.schedule.specs.declared.Judged.the-variants.{Sound}
+use Rattle.schedule.specs.declared.Admitted.{Admitted}
+use Rattle.schedule.specs.declared.Admitted.the-variants.{Sound}
 use Rattle.schedule.specs.declared.Found.{Found}
 use Rattle.schedule.specs.declared.Found.the-variants.{Script, Missing}
 use Rattle.schedule.specs.declared.Next.{Next}
 use Rattle.schedule.specs.declared.Next.the-variants.{Over, Refused, Taken}
-use Rattle.schedule.specs.Meaning.{judgementIs, foundIs, nextIs}
+use Rattle.schedule.specs.Meaning.{admissionIs, foundIs, nextIs}
 
-judgedBack : Judging.Judgement → Judged
-judgedBack (Judging.sound n m) = Sound n m
-judgedBack (Judging.Judgement.refused refusal) = Judged.Rejected (refusalBack refusal)
+admittedBack : Admitting.Admission → Admitted
+admittedBack (Admitting.sound n m) = Sound n m
+admittedBack (Admitting.Admission.refused refusal) = Admitted.Rejected (refusalBack refusal)
 
 foundBack : Option Rules.Refusal → Found
 foundBack none = Script
@@ -28,10 +29,10 @@ nextBack Taking.over = Over
 nextBack (Taking.Next.refused handler refusal) = Refused handler (refusalBack refusal)
 nextBack (Taking.taken handler step) = Taken handler (step .code) (step .value)
 
-judged-same : (judged : Judged) → judgedBack (judgementIs judged) ≡ judged
-unfolding judgedBack
-judged-same (Sound n m) = refl
-judged-same (Judged.Rejected refusal) = ap Judged.Rejected (refusal-same refusal)
+admitted-same : (admitted : Admitted) → admittedBack (admissionIs admitted) ≡ admitted
+unfolding admittedBack
+admitted-same (Sound n m) = refl
+admitted-same (Admitted.Rejected refusal) = ap Admitted.Rejected (refusal-same refusal)
 
 found-same : (found : Found) → foundBack (foundIs found) ≡ found
 unfolding foundBack
@@ -45,9 +46,9 @@ next-same Over = refl
 next-same (Refused handler refusal) = ap (Refused handler) (refusal-same refusal)
 next-same (Taken handler code value) = refl
 
--- Different answers about a file are different judgements.
-pub judged-apart : Injective judgementIs
-judged-apart = read-back judgementIs judgedBack judged-same
+-- Different answers about a file are different admissions.
+pub admitted-apart : Injective admissionIs
+admitted-apart = read-back admissionIs admittedBack admitted-same
 
 -- Different answers about a script are different refusals, or one is none.
 pub found-apart : Injective foundIs
@@ -56,3 +57,17 @@ found-apart = read-back foundIs foundBack found-same
 -- Different answers at an order place are different steps or refusals.
 pub nexts-apart : Injective nextIs
 nexts-apart = read-back nextIs nextBack next-same
+
+-- ── One outcome ───────────────────────────────────────────────────────
+
+-- An admission has one answer,
+pub admitted-determined : Determined admissionIs
+admitted-determined = determined admitted-apart
+
+-- so has the question for a script,
+pub found-determined : Determined foundIs
+found-determined = determined found-apart
+
+-- and a next step, which leaves one row of cursors.
+pub next-determined : Determined nextIs
+next-determined = determined nexts-apart

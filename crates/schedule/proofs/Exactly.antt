@@ -7,10 +7,10 @@ use mathlib.Core.Option.{none, some}
 use lib.Dec.{leb}
 use lib.ListN.{length}
 use borrow.Author.Tests.{leb-true, leb-false, le-leb, lt-leb}
-use Rattle.rules.specs.Replies.{Refusal, badFile, noHandler, usedUp, unknownStep}
-use Rattle.rules.specs.Checks.{firstHit}
-use Rattle.rules.proofs.Tables.{by, both-ways}
-use Rattle.rules.proofs.Given.{exactly}
+use Rattle.rules.specs.steps.Replies.{Refusal, badFile, noHandler, usedUp, unknownStep}
+use Rattle.rules.specs.steps.Checks.{firstHit}
+use Rattle.rules.proofs.steps.Tables.{by, both-ways}
+use Rattle.rules.proofs.steps.Given.{exactly}
 use Rattle.schedule.specs.Sound.{handlersIn, isSoundFile}
 use Rattle.schedule.specs.Finding.{scriptChecks, scriptRefusal}
 use Rattle.schedule.specs.Taking.{Cursors, leftOf, isSpoilt, leftChecks, placeChecks}

@@ -1,14 +1,14 @@
 -- A handler's script by its ways: not found with 30 or 11, and then empty, or the part of the file.
 use Prim.Native.Nat.{ℕ, _≤_, _<_}
-use mathlib.Core.Path.{_≡_, sym, _∙_}
+use mathlib.Core.Path.{_≡_, refl, sym, _∙_}
 use mathlib.Core.Bool.{true, false, not}
 use mathlib.Core.List.{List, []}
 use mathlib.Core.Option.{Option, none, some}
 use lib.Dec.{leb}
 use borrow.Author.Tests.{leb-false, le-leb, lt-leb, not-false}
-use Rattle.rules.specs.Replies.{Refusal, badFile, noHandler}
-use Rattle.rules.specs.Checks.{firstHit}
-use Rattle.rules.proofs.Given.{none-holds}
+use Rattle.rules.specs.steps.Replies.{Refusal, badFile, noHandler}
+use Rattle.rules.specs.steps.Checks.{firstHit}
+use Rattle.rules.proofs.steps.Given.{none-holds}
 use Rattle.schedule.specs.Sound.{handlersIn, scriptIn, SoundFile, isSoundFile}
 use Rattle.schedule.specs.Finding.{scriptChecks, scriptRefusal, foundPart, ScriptPromise, AnswerPromise}
 use Rattle.schedule.proofs.Sounds.{file-tested}
@@ -17,18 +17,18 @@ module _ {file : List ℕ} {handler : ℕ} where
   -- The file is not sound.
   pub answer-bad : isSoundFile file ≡ false → AnswerPromise file handler (some badFile)
   unfolding scriptRefusal scriptChecks firstHit
-  answer-bad bad = record { replied = rw bad }
+  answer-bad bad = record { replied = rw bad; left = refl }
 
   module _ (sound : isSoundFile file ≡ true) where
     -- There is no such handler.
     pub answer-beyond : handlersIn file ≤ handler → AnswerPromise file handler (some noHandler)
     unfolding scriptRefusal scriptChecks firstHit
-    answer-beyond beyond = record { replied = rw (sound, le-leb (handlersIn file) handler beyond) }
+    answer-beyond beyond = record { replied = rw (sound, le-leb (handlersIn file) handler beyond); left = refl }
 
     -- The script is found.
     pub answer-found : handler < handlersIn file → AnswerPromise file handler none
     unfolding scriptRefusal scriptChecks firstHit
-    answer-found below = record { replied = rw (sound, lt-leb (handlersIn file) handler below) }
+    answer-found below = record { replied = rw (sound, lt-leb (handlersIn file) handler below); left = refl }
 
   -- Where a script is found, the file is sound and has such a handler.
   pub found-there : AnswerPromise file handler none → SoundFile file × (handler < handlersIn file)
@@ -41,9 +41,9 @@ module _ {file : List ℕ} {handler : ℕ} where
   -- The part that is given back where a script is found,
   pub part-found : {found : List ℕ} → AnswerPromise file handler none → found ≡ scriptIn file handler → ScriptPromise file handler found
   unfolding foundPart
-  part-found p is = record { given = is ∙ rw (← p .replied) }
+  part-found p is = record { replied = is ∙ rw (← p .replied); left = refl }
 
   -- and where it is not.
   pub part-missing : {refusal : Refusal} → AnswerPromise file handler (some refusal) → ScriptPromise file handler []
   unfolding foundPart
-  part-missing p = record { given = rw (← p .replied) }
+  part-missing p = record { replied = rw (← p .replied); left = refl }

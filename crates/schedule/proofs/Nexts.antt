@@ -6,15 +6,15 @@ use mathlib.Core.List.{List}
 use mathlib.Core.Option.{some}
 use lib.ListN.{length, set}
 use borrow.Author.Tests.{le-leb, lt-leb}
-use Rattle.rules.specs.Codes.{kindOf}
-use Rattle.rules.specs.Replies.{Refusal, badFile, noHandler}
-use Rattle.rules.specs.Checks.{firstHit}
+use Rattle.rules.specs.steps.Codes.{plainSheet}
+use Rattle.rules.specs.steps.Replies.{Refusal, badFile, noHandler}
+use Rattle.rules.specs.steps.Checks.{firstHit}
 use Rattle.schedule.specs.Bytes.{byteAt}
 use Rattle.schedule.specs.Sound.{handlersIn, orderIn, isSoundFile}
 use Rattle.schedule.specs.Scripts.{ScriptStep, valueLong}
 use Rattle.schedule.specs.Taking.{Cursors, cursorOf, Next, rejected, over, refused, taken, leftOf, leftChecks, placeChecks, answered}
 use Rattle.schedule.specs.Taking.{namedNext, nextOf, cursorsAfter, NextPromise}
-use Rattle.schedule.specs.Fronts.{Standing, NamedNext}
+use Rattle.schedule.specs.Fronts.{StepInFront, NamedNext}
 
 -- ── The handler that is named ─────────────────────────────────────────
 
@@ -43,7 +43,7 @@ module _ (file : List ℕ) (cursors : Cursors) (handler : ℕ) where
     named-refused stops = named-stays (rw (left-decides, stops))
 
     -- The step that stands in front.
-    pub named-taken : {code value long : ℕ} {after : Cursors} → Standing (leftOf file cursors handler) code value long
+    pub named-taken : {code value long : ℕ} {after : Cursors} → StepInFront (leftOf file cursors handler) code value long
         → after ≡ set cursors handler (cursorOf cursors handler + long)
         → NamedNext file cursors handler (taken handler (record { code = code; value = value })) after
     unfolding namedNext answered cursorsAfter
@@ -53,8 +53,8 @@ module _ (file : List ℕ) (cursors : Cursors) (handler : ℕ) where
         advanced : ℕ → Cursors
         advanced more = set cursors handler (cursorOf cursors handler + more)
 
-        lasts : long ≡ 1 + valueLong (kindOf code)
-        lasts = stands .takes ∙ ap (λ (step : ScriptStep). 1 + valueLong (kindOf (step .code))) (sym (stands .step))
+        lasts : long ≡ 1 + valueLong (plainSheet code)
+        lasts = stands .takes ∙ ap (λ (step : ScriptStep). 1 + valueLong (plainSheet (step .code))) (sym (stands .step))
 
         taking : namedNext file cursors handler ≡ taken handler (record { code = code; value = value })
         taking = rw (left-decides, stands .passes) (ap (taken handler) (sym (stands .step)))

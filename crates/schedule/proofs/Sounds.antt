@@ -9,12 +9,12 @@ use native.Mathlib.Omega.{arith}
 use lib.Dec.{eqb}
 use lib.ListN.{length, take, drop, length-take, length-drop}
 use borrow.Author.Tests.{eqb-true, eq-eqb, le-leb}
-use Rattle.rules.specs.Checks.{inRange}
-use Rattle.rules.proofs.Given.{range-tested}
-use Rattle.rules.proofs.Tables.{and-iff, leb-iff, same-test}
+use Rattle.rules.specs.steps.Checks.{inRange}
+use Rattle.rules.proofs.steps.Given.{range-tested}
+use Rattle.rules.proofs.steps.Tables.{and-iff, leb-iff, same-test}
 use Rattle.layout.proofs.Tested.{every-iff}
-use Rattle.formed.proofs.Answers.{answers-no}
-use Rattle.schedule.specs.Bytes.{entryAt, offsetOf, lengthOf, bodyOf}
+use Rattle.limits.proofs.Ranges.{answers-no}
+use Rattle.schedule.specs.Bytes.{entryAt, offsetOf, lengthOf, entryBody}
 use Rattle.schedule.specs.Sound.{handlersIn, cellsIn, tableStart, entriesIn, dueAt, SoundTable, SoundFile, isPlaced, isSoundTable, isSoundFile}
 
 -- The test of equality answers the equality.
@@ -100,12 +100,12 @@ ends-answer file start entries due whole placed next =
     (λ e. eq-eqb due (length file) (next ∙ tested .0 e .ends))
 
 -- No body is longer than the file.
-pub body-short : (file : List ℕ) (start k : ℕ) → length (bodyOf file start k) ≤ length file
+pub body-short : (file : List ℕ) (start k : ℕ) → length (entryBody file start k) ≤ length file
 body-short file start k = simp (length-take, length-drop) (omega arith)
 
 -- What is lent from a body's offset on, of its length, is the body.
 pub body-lent : (file : List ℕ) (start k : ℕ) {from long : ℕ} → from ≡ offsetOf file start k → long ≡ lengthOf file start k
-    → take ((from + long) - from) (drop from file) ≡ bodyOf file start k
+    → take ((from + long) - from) (drop from file) ≡ entryBody file start k
 body-lent file start k {from} {long} begins lasts =
     let count : (from + long) - from ≡ long = omega arith in
     rw (count, begins, lasts)

@@ -10,19 +10,19 @@ use lib.Dec.{leb}
 use lib.ListN.{length, drop, length-drop}
 use lib.Seq.{getD-drop}
 use borrow.Author.Tests.{le-leb, lt-leb, lt-ltb, le-ltb}
-use Rattle.rules.specs.Replies.{usedUp, unknownStep}
-use Rattle.rules.specs.Codes.{begin, try, read, write, Kind, known, unknown, kindOf}
-use Rattle.rules.specs.Checks.{firstHit}
+use Rattle.rules.specs.steps.Replies.{usedUp, unknownStep}
+use Rattle.rules.specs.steps.Codes.{begin, try, read, write, Kind, known, unknown, plainSheet}
+use Rattle.rules.specs.steps.Checks.{firstHit}
 use Rattle.schedule.specs.Bytes.{byteAt, shortAt, longAt}
-use Rattle.schedule.specs.Scripts.{ScriptStep, valueLong, valueIn}
+use Rattle.schedule.specs.Scripts.{ScriptStep, valueLong, valueBehind}
 use Rattle.schedule.specs.Taking.{leftChecks, stepLong}
-use Rattle.schedule.specs.Fronts.{stepBytes, Standing}
+use Rattle.schedule.specs.Fronts.{stepBytes, StepInFront}
 use Rattle.schedule.proofs.Wholes.{takes-none, code-there, some-left, known-there, long-there}
 
 -- ── The value ─────────────────────────────────────────────────────────
 
 -- A step that takes fewer than five bytes has no value,
-no-value : (kind : Kind) (bytes : List ℕ) → valueLong kind < 4 → 0 ≡ valueIn kind bytes
+no-value : (kind : Kind) (bytes : List ℕ) → valueLong kind < 4 → 0 ≡ valueBehind kind bytes
 no-value (known begin) bytes h = refl
 no-value (known try) bytes h = refl
 no-value (known (read x)) bytes h = refl
@@ -30,7 +30,7 @@ no-value (known (write x)) bytes h = absurd (omega arith)
 no-value unknown bytes h = refl
 
 -- and another has the number behind its code.
-write-value : (kind : Kind) (bytes : List ℕ) → 4 ≤ valueLong kind → longAt bytes 1 ≡ valueIn kind bytes
+write-value : (kind : Kind) (bytes : List ℕ) → 4 ≤ valueLong kind → longAt bytes 1 ≡ valueBehind kind bytes
 write-value (known begin) bytes h = absurd (omega arith)
 write-value (known try) bytes h = absurd (omega arith)
 write-value (known (read x)) bytes h = absurd (omega arith)
@@ -56,17 +56,17 @@ front-used script at h = rw (le-leb (length (drop at script)) 0 (omega (arith, l
 module _ (script : List ℕ) (at : ℕ) (inside : at < length script) where
   -- The kind of the code in front.
   abbrev kindLeft : Kind
-  kindLeft = kindOf (byteAt (drop at script) 0)
+  kindLeft = plainSheet (byteAt (drop at script) 0)
 
   -- The script is not used up.
   not-used : leb (length (drop at script)) 0 ≡ false
   not-used = lt-leb _ _ (some-left script at inside)
 
-  module _ {long : ℕ} (takes : long ≡ stepBytes (kindOf (byteAt script at))) where
+  module _ {long : ℕ} (takes : long ≡ stepBytes (plainSheet (byteAt script at))) where
     -- 15 where the code is unknown,
     pub front-unknown : long ≡ 0 → firstHit (leftChecks (drop at script)) ≡ some unknownStep
     unfolding firstHit leftChecks
-    front-unknown e = rw (not-used, code-there script at inside, takes-none (kindOf (byteAt script at)) (sym takes ∙ e))
+    front-unknown e = rw (not-used, code-there script at inside, takes-none (plainSheet (byteAt script at)) (sym takes ∙ e))
 
     module _ (some-taken : long ≡ 0 → ⊥) where
       -- The step in front takes so many of the bytes that are left.
@@ -82,8 +82,8 @@ module _ (script : List ℕ) (at : ℕ) (inside : at < length script) where
 
       module _ (fits : at + long ≤ length script) where
         -- Else a step stands there, with its own value:
-        front-step : {value : ℕ} → value ≡ valueIn kindLeft (drop at script)
-            → Standing (drop at script) (byteAt script at) value long
+        front-step : {value : ℕ} → value ≡ valueBehind kindLeft (drop at script)
+            → StepInFront (drop at script) (byteAt script at) value long
         unfolding firstHit leftChecks
         front-step own =
             let whole = le-ltb (length (drop at script)) (stepLong (drop at script)) (omega (arith, long-left, length-drop at script)) in
@@ -95,11 +95,11 @@ module _ (script : List ℕ) (at : ℕ) (inside : at < length script) where
             }
 
         -- none where it takes fewer than five bytes,
-        pub front-short : long < 5 → Standing (drop at script) (byteAt script at) 0 long
+        pub front-short : long < 5 → StepInFront (drop at script) (byteAt script at) 0 long
         front-short few = front-step (no-value kindLeft (drop at script) (omega (arith, long-left)))
 
         -- and else the number behind its code.
         pub front-write : {value : ℕ} → 5 ≤ long → value ≡ longAt script (at + 1)
-            → Standing (drop at script) (byteAt script at) value long
+            → StepInFront (drop at script) (byteAt script at) value long
         front-write many is =
             front-step (is ∙ sym (long-behind script at 1) ∙ write-value kindLeft (drop at script) (omega (arith, long-left)))

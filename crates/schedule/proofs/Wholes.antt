@@ -8,10 +8,10 @@ use native.Mathlib.Nat.{add-zero}
 use native.Mathlib.Omega.{arith}
 use lib.ListN.{length, getD, drop, length-drop, drop-of-length-le}
 use lib.Seq.{getD-drop, drop-drop}
-use Rattle.rules.specs.Tables.{isFound}
-use Rattle.rules.specs.Codes.{begin, try, read, write, Kind, known, unknown, kindOf}
-use Rattle.rules.specs.Checks.{isUnknown}
-use Rattle.rules.proofs.Tables.{both-ways}
+use Rattle.rules.specs.steps.Tables.{isFound}
+use Rattle.rules.specs.steps.Codes.{begin, try, read, write, Kind, known, unknown, plainSheet}
+use Rattle.rules.specs.steps.Checks.{isUnknown}
+use Rattle.rules.proofs.steps.Tables.{both-ways}
 use Rattle.schedule.specs.Bytes.{byteAt}
 use Rattle.schedule.specs.Scripts.{ScriptStep, valueLong, firstStep, before, stepsBehind, stepsOf, isWhole}
 use Rattle.schedule.specs.Taking.{stepLong}
@@ -56,26 +56,26 @@ cut (suc k) (byte ∷ bytes) h = cut k bytes (omega arith)
 -- ── What stands in front ──────────────────────────────────────────────
 
 -- Nothing is read behind an unknown code,
-pub steps-unknown : (left : List ℕ) → 0 < length left → isUnknown (kindOf (byteAt left 0)) ≡ true → stepsOf left ≡ none
+pub steps-unknown : (left : List ℕ) → 0 < length left → isUnknown (plainSheet (byteAt left 0)) ≡ true → stepsOf left ≡ none
 unfolding stepsBehind
 steps-unknown [] filled e = absurd (omega arith)
 steps-unknown (code ∷ bytes) filled e = rw e
 
 -- nor where a write is cut short.
-pub steps-cut : (left : List ℕ) → 0 < length left → isUnknown (kindOf (byteAt left 0)) ≡ false → length left < stepLong left
+pub steps-cut : (left : List ℕ) → 0 < length left → isUnknown (plainSheet (byteAt left 0)) ≡ false → length left < stepLong left
     → stepsOf left ≡ none
 unfolding stepsBehind
 steps-cut [] filled e short = absurd (omega arith)
-steps-cut (code ∷ bytes) filled e short = rw (e, cut (valueLong (kindOf code)) bytes (omega arith))
+steps-cut (code ∷ bytes) filled e short = rw (e, cut (valueLong (plainSheet code)) bytes (omega arith))
 
 -- A step that stands in front is read, and then what is behind it.
-pub steps-next : (left : List ℕ) → 0 < length left → isUnknown (kindOf (byteAt left 0)) ≡ false → stepLong left ≤ length left
+pub steps-next : (left : List ℕ) → 0 < length left → isUnknown (plainSheet (byteAt left 0)) ≡ false → stepLong left ≤ length left
     → stepsOf left ≡ before (firstStep left) (stepsOf (drop (stepLong left) left))
 unfolding stepsBehind
 steps-next [] filled e fits = absurd (omega arith)
 steps-next (code ∷ bytes) filled e fits =
-    let skips = skipped (valueLong (kindOf code)) bytes (omega arith) in
-    let behind : stepLong (code ∷ bytes) ≡ suc (valueLong (kindOf code)) = omega arith in
+    let skips = skipped (valueLong (plainSheet code)) bytes (omega arith) in
+    let behind : stepLong (code ∷ bytes) ≡ suc (valueLong (plainSheet code)) = omega arith in
     rw (e, skips, behind)
 
 -- A step before others changes nothing in whether they could be read.
@@ -101,7 +101,7 @@ module _ (script : List ℕ) (at : ℕ) (inside : at < length script) where
 
   -- The kind of the code at the place.
   abbrev kindThere : Kind
-  kindThere = kindOf (byteAt script at)
+  kindThere = plainSheet (byteAt script at)
 
   module _ {long : ℕ} (takes : long ≡ stepBytes kindThere) where
     -- A script is not whole where a code is unknown,
@@ -110,7 +110,7 @@ module _ (script : List ℕ) (at : ℕ) (inside : at < length script) where
 
     module _ (some-taken : long ≡ 0 → ⊥) where
       -- The code in front is known,
-      pub known-there : isUnknown (kindOf (byteAt (drop at script) 0)) ≡ false
+      pub known-there : isUnknown (plainSheet (byteAt (drop at script) 0)) ≡ false
       known-there = rw code-there (takes-some kindThere (λ e. some-taken (takes ∙ e)))
 
       -- and its step takes so many bytes.

@@ -29,5 +29,5 @@ abbrev pub lengthOf : List ℕ → ℕ → ℕ → ℕ
 lengthOf file start k = shortAt file (entryAt start k + 2)
 
 -- The body of entry k, a part of the file.
-abbrev pub bodyOf : List ℕ → ℕ → ℕ → List ℕ
-bodyOf file start k = part (offsetOf file start k) (lengthOf file start k) file
+abbrev pub entryBody : List ℕ → ℕ → ℕ → List ℕ
+entryBody file start k = part (offsetOf file start k) (lengthOf file start k) file

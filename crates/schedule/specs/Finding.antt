@@ -1,13 +1,13 @@
 -- A handler's script, asked for by the handler: its body as the very part of the file, and beside it the answer that tells found,
--- 30 and 11 apart. Codes are not judged here.
+-- 30 and 11 apart. Codes are not looked at here.
 use Prim.Native.Nat.{ℕ}
-use mathlib.Core.Path.{_≡_}
 use mathlib.Core.Bool.{not}
 use mathlib.Core.List.{List, [], _∷_}
 use mathlib.Core.Option.{Option, none, some}
 use lib.Dec.{leb}
-use Rattle.rules.specs.Replies.{Refusal, badFile, noHandler}
-use Rattle.rules.specs.Checks.{Check, _when_, firstHit}
+use Rattle.rules.specs.Promise.{Due, Promise, answering}
+use Rattle.rules.specs.steps.Replies.{Refusal, badFile, noHandler}
+use Rattle.rules.specs.steps.Checks.{Check, _when_, firstHit}
 use Rattle.schedule.specs.Sound.{handlersIn, scriptIn, isSoundFile}
 
 -- 30 where the file is not sound, 11 for handler n or above.
@@ -23,10 +23,23 @@ unfoldable pub foundPart : List ℕ → ℕ → Option Refusal → List ℕ
 foundPart file handler none = scriptIn file handler
 foundPart file handler (some refusal) = []
 
+-- What is given to whoever asks for a script: the file, and the handler.
+pub record ScriptCall : Type 0 where
+  pub file : List ℕ
+  pub handler : ℕ
+
+-- The part of the file that is found,
+abbrev pub findsScript : ScriptCall → Due (List ℕ) Unit
+findsScript = answering (λ call. foundPart (call .file) (call .handler) (scriptRefusal (call .file) (call .handler)))
+
+-- and the answer beside it.
+abbrev pub answersScript : ScriptCall → Due (Option Refusal) Unit
+answersScript = answering (λ call. scriptRefusal (call .file) (call .handler))
+
 -- The promise of a script: the part of the file.
-pub record ScriptPromise (file : List ℕ) (handler : ℕ) (found : List ℕ) : Type 0 where
-  pub given : found ≡ foundPart file handler (scriptRefusal file handler)
+abbrev pub ScriptPromise : List ℕ → ℕ → List ℕ → Type 0
+ScriptPromise file handler found = Promise findsScript (record { file = file; handler = handler }) found tt
 
 -- The promise of the answer beside it.
-pub record AnswerPromise (file : List ℕ) (handler : ℕ) (reply : Option Refusal) : Type 0 where
-  pub replied : reply ≡ scriptRefusal file handler
+abbrev pub AnswerPromise : List ℕ → ℕ → Option Refusal → Type 0
+AnswerPromise file handler reply = Promise answersScript (record { file = file; handler = handler }) reply tt

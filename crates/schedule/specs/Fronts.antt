@@ -1,3 +1,4 @@
+-- For internal contracts alone: what our own functions are called with and leave. Nothing here need be believed.
 -- What the functions inside this crate say: how many bytes a step takes, what stands in front of what is left of a script, and
 -- what an order place names.
 use Prim.Native.Nat.{ℕ, _+_, _≤_, _<_}
@@ -6,9 +7,9 @@ use mathlib.Core.Bool.{true, false}
 use mathlib.Core.List.{List}
 use mathlib.Core.Option.{none, some}
 use lib.ListN.{length}
-use Rattle.rules.specs.Codes.{Kind, known, unknown}
-use Rattle.rules.specs.Checks.{firstHit}
-use Rattle.replies.specs.Meaning.{refusalOf}
+use Rattle.rules.specs.steps.Codes.{Kind, known, unknown}
+use Rattle.rules.specs.steps.Checks.{firstHit}
+use Rattle.replies.specs.Meaning.{refusalIs}
 use Rattle.schedule.specs.Bytes.{byteAt}
 use Rattle.schedule.specs.Sound.{orderIn, isSoundFile}
 use Rattle.schedule.specs.Scripts.{valueLong, firstStep}
@@ -24,7 +25,7 @@ stepBytes (known step) = 1 + valueLong (known step)
 stepBytes unknown = 0
 
 -- A step stands in front of what is left.
-pub record Standing (left : List ℕ) (code value long : ℕ) : Type 0 where
+pub record StepInFront (left : List ℕ) (code value long : ℕ) : Type 0 where
   pub passes : firstHit (leftChecks left) ≡ none
   pub step : record { code = code; value = value } ≡ firstStep left
   pub takes : long ≡ stepLong left
@@ -32,8 +33,8 @@ pub record Standing (left : List ℕ) (code value long : ℕ) : Type 0 where
 
 -- What stands in front of what is left: a refusal, or a step.
 abbrev pub FrontOf : List ℕ → Front → Type 0
-FrontOf left (Refuses refusal) = firstHit (leftChecks left) ≡ some (refusalOf refusal)
-FrontOf left (Stands code value long) = Standing left code value long
+FrontOf left (Refuses refusal) = firstHit (leftChecks left) ≡ some (refusalIs refusal)
+FrontOf left (Stands code value long) = StepInFront left code value long
 
 -- What an order place holds: nothing in a file that is not sound, nothing beyond the order, and else the handler that it names.
 abbrev pub OrderOf : List ℕ → ℕ → Order → Type 0

@@ -5,7 +5,7 @@ use mathlib.Core.Path.{_≡_}
 use mathlib.Core.Bool.{true}
 use mathlib.Core.List.{List}
 use lib.ListN.{length}
-use Rattle.rules.specs.Replies.{Refusal, badFile, noHandler, usedUp, unknownStep}
+use Rattle.rules.specs.steps.Replies.{Refusal, badFile, noHandler, usedUp, unknownStep}
 use Rattle.schedule.specs.Sound.{SoundFile, handlersIn}
 use Rattle.schedule.specs.Taking.{Cursors, leftOf, isSpoilt}
 
@@ -15,7 +15,7 @@ pub data PlaceGiven (file : List ℕ) (cursors : Cursors) (handler : ℕ) : Refu
   beyond : handlersIn file ≤ handler → PlaceGiven file cursors handler noHandler
   -- 32 where its script is used up,
   nothingLeft : handler < handlersIn file → length (leftOf file cursors handler) ≤ 0 → PlaceGiven file cursors handler usedUp
-  -- and 15 where no step stands at its cursor, as is so nowhere in a run of a file that is judged sound
+  -- and 15 where no step stands at its cursor, as is so nowhere in a run of a file that is admitted sound
   noStepThere : handler < handlersIn file → 0 < length (leftOf file cursors handler) → isSpoilt (leftOf file cursors handler) ≡ true
       → PlaceGiven file cursors handler unknownStep
 

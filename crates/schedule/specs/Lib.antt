@@ -2,12 +2,9 @@
 pub mod Bytes
 pub mod Sound
 pub mod Scripts
-pub mod Judging
+pub mod Admitting
 pub mod Finding
 pub mod Taking
-pub mod Runs
-pub mod Lines
-pub mod Shown
 pub mod Meaning
 pub mod Fronts
 pub mod Given

@@ -3,9 +3,9 @@ use Prim.Native.Nat.{ℕ, zero, suc}
 use mathlib.Core.Bool.{Bool}
 use mathlib.Core.List.{List, [], _∷_}
 use mathlib.Core.Option.{Option, none, some}
-use Rattle.rules.specs.Tables.{if_then_else_, isFound}
-use Rattle.rules.specs.Codes.{begin, try, read, write, Kind, known, unknown, kindOf}
-use Rattle.rules.specs.Checks.{isUnknown}
+use Rattle.rules.specs.steps.Tables.{if_then_else_, isFound}
+use Rattle.rules.specs.steps.Codes.{begin, try, read, write, Kind, known, unknown, plainSheet}
+use Rattle.rules.specs.steps.Checks.{isUnknown}
 use Rattle.schedule.specs.Bytes.{byteAt, longAt}
 
 -- A step of a script: its code, and its value, 0 where it is no write.
@@ -22,16 +22,16 @@ valueLong (known (write x)) = 4
 valueLong unknown = 0
 
 -- The value of a step at the front of some bytes.
-abbrev pub valueIn : Kind → List ℕ → ℕ
-valueIn (known begin) bytes = 0
-valueIn (known try) bytes = 0
-valueIn (known (read x)) bytes = 0
-valueIn (known (write x)) bytes = longAt bytes 1
-valueIn unknown bytes = 0
+abbrev pub valueBehind : Kind → List ℕ → ℕ
+valueBehind (known begin) bytes = 0
+valueBehind (known try) bytes = 0
+valueBehind (known (read x)) bytes = 0
+valueBehind (known (write x)) bytes = longAt bytes 1
+valueBehind unknown bytes = 0
 
 -- The step at the front of some bytes.
 abbrev pub firstStep : List ℕ → ScriptStep
-firstStep bytes = record { code = byteAt bytes 0; value = valueIn (kindOf (byteAt bytes 0)) bytes }
+firstStep bytes = record { code = byteAt bytes 0; value = valueBehind (plainSheet (byteAt bytes 0)) bytes }
 
 -- A step before others, if these could be read.
 abbrev pub before : ScriptStep → Option (List ScriptStep) → Option (List ScriptStep)
@@ -44,8 +44,8 @@ stepsBehind zero [] = some []
 stepsBehind (suc k) [] = none
 stepsBehind (suc k) (byte ∷ bytes) = stepsBehind k bytes
 stepsBehind zero (code ∷ bytes) =
-    let steps = before (firstStep (code ∷ bytes)) (stepsBehind (valueLong (kindOf code)) bytes) in
-    if isUnknown (kindOf code) then none else steps
+    let steps = before (firstStep (code ∷ bytes)) (stepsBehind (valueLong (plainSheet code)) bytes) in
+    if isUnknown (plainSheet code) then none else steps
 
 -- The steps of a script, if it is whole: every code known and no write cut short.
 abbrev pub stepsOf : List ℕ → Option (List ScriptStep)

@@ -6,10 +6,10 @@ use mathlib.Core.Bool.{Bool, _&&_}
 use mathlib.Core.List.{List}
 use lib.ListN.{length}
 use lib.Dec.{eqb, leb}
-use Rattle.rules.specs.Checks.{inRange}
-use Rattle.rules.specs.Given.{InRange}
+use Rattle.rules.specs.steps.Checks.{inRange}
+use Rattle.rules.specs.steps.Given.{InRange}
 use Rattle.layout.specs.WellFormed.{everyBelow}
-use Rattle.schedule.specs.Bytes.{byteAt, entryAt, offsetOf, lengthOf, bodyOf}
+use Rattle.schedule.specs.Bytes.{byteAt, entryAt, offsetOf, lengthOf, entryBody}
 
 -- Byte 0 is n.
 abbrev pub handlersIn : List ℕ → ℕ
@@ -29,11 +29,11 @@ entriesIn file = handlersIn file + 1
 
 -- Entries 0 to n − 1 are the scripts of handlers 0 to n − 1,
 abbrev pub scriptIn : List ℕ → ℕ → List ℕ
-scriptIn file handler = bodyOf file tableStart handler
+scriptIn file handler = entryBody file tableStart handler
 
 -- the last is the order.
 abbrev pub orderIn : List ℕ → List ℕ
-orderIn file = bodyOf file tableStart (handlersIn file)
+orderIn file = entryBody file tableStart (handlersIn file)
 
 -- ── The proposition ───────────────────────────────────────────────────
 

@@ -1,15 +1,15 @@
 -- The next step at an order place: an order byte names the handler whose next step is taken. Order: 11, 32, then the step.
 use Prim.Native.Nat.{ℕ, _+_}
-use mathlib.Core.Path.{_≡_}
 use mathlib.Core.Bool.{Bool, _||_}
 use mathlib.Core.List.{List, [], _∷_}
 use mathlib.Core.Option.{Option, none, some}
 use lib.Dec.{leb, ltb}
 use lib.ListN.{length, getD, set, drop, replicate}
-use Rattle.rules.specs.Tables.{if_then_else_}
-use Rattle.rules.specs.Codes.{kindOf}
-use Rattle.rules.specs.Replies.{Refusal, badFile, noHandler, usedUp, unknownStep}
-use Rattle.rules.specs.Checks.{Check, _when_, firstHit, isUnknown}
+use Rattle.rules.specs.steps.Tables.{if_then_else_}
+use Rattle.rules.specs.steps.Codes.{plainSheet}
+use Rattle.rules.specs.Promise.{Due, Promise}
+use Rattle.rules.specs.steps.Replies.{Refusal, badFile, noHandler, usedUp, unknownStep}
+use Rattle.rules.specs.steps.Checks.{Check, _when_, firstHit, isUnknown}
 use Rattle.schedule.specs.Bytes.{byteAt}
 use Rattle.schedule.specs.Sound.{handlersIn, scriptIn, orderIn, isSoundFile}
 use Rattle.schedule.specs.Scripts.{ScriptStep, valueLong, firstStep}
@@ -43,13 +43,13 @@ leftOf file cursors handler = drop (cursorOf cursors handler) (scriptIn file han
 
 -- How many bytes the step at the front of some bytes takes.
 abbrev pub stepLong : List ℕ → ℕ
-stepLong bytes = 1 + valueLong (kindOf (byteAt bytes 0))
+stepLong bytes = 1 + valueLong (plainSheet (byteAt bytes 0))
 
 -- The step at the front of some bytes has an unknown code or is cut short.
 abbrev pub isSpoilt : List ℕ → Bool
-isSpoilt bytes = isUnknown (kindOf (byteAt bytes 0)) || ltb (length bytes) (stepLong bytes)
+isSpoilt bytes = isUnknown (plainSheet (byteAt bytes 0)) || ltb (length bytes) (stepLong bytes)
 
--- 32 where nothing is left. 15 where no step stands in front, as is so nowhere in a run of a file that is judged sound.
+-- 32 where nothing is left. 15 where no step stands in front, as is so nowhere in a run of a file that is admitted sound.
 unfoldable pub leftChecks : List ℕ → List (Check Refusal)
 leftChecks left = (usedUp when leb (length left) 0) ∷ (unknownStep when isSpoilt left) ∷ []
 
@@ -78,9 +78,20 @@ cursorsAfter cursors (rejected refusal) = cursors
 cursorsAfter cursors over = cursors
 cursorsAfter cursors (refused handler refusal) = cursors
 cursorsAfter cursors (taken handler step) =
-    set cursors handler (cursorOf cursors handler + (1 + valueLong (kindOf (step .code))))
+    set cursors handler (cursorOf cursors handler + (1 + valueLong (plainSheet (step .code))))
 
--- The promise of a next step, and of the cursors afterwards.
-pub record NextPromise (file : List ℕ) (cursors : Cursors) (place : ℕ) (reply : Next) (after : Cursors) : Type 0 where
-  pub replied : reply ≡ nextOf file cursors place
-  pub left : after ≡ cursorsAfter cursors (nextOf file cursors place)
+-- What the next step is asked of: the file, the cursors, and the order place.
+pub record NextCall : Type 0 where
+  pub file : List ℕ
+  pub cursors : Cursors
+  pub place : ℕ
+
+-- What it comes to, and the cursors afterwards.
+abbrev pub takesNext : NextCall → Due Next Cursors
+takesNext call =
+    let next = nextOf (call .file) (call .cursors) (call .place) in
+    record { reply = next; leaves = cursorsAfter (call .cursors) next }
+
+-- The promise of a next step.
+abbrev pub NextPromise : List ℕ → Cursors → ℕ → Next → Cursors → Type 0
+NextPromise file cursors place reply after = Promise takesNext (record { file = file; cursors = cursors; place = place }) reply after

@@ -1,26 +1,25 @@
-// The schedule file: its judgement, a handler's script as a part of it, the next step at an order place, and what a run of it shows.
+// The schedule file: its admission, a handler's script as a part of it, and the next step at an order place.
 // PUBLIC: nothing here has a `requires`. Each promise fixes the reply for every file, whatever its bytes and its length.
-mod judging;
 mod scripts;
+mod sound;
 mod table;
 mod taking;
 
 ghost use mathlib.Core.Path.{_≡_};
-ghost use Rattle.schedule.specs.Judging.{JudgePromise};
+ghost use Rattle.schedule.specs.Admitting.{AdmissionPromise};
 ghost use Rattle.schedule.specs.Finding.{ScriptPromise, AnswerPromise};
 ghost use Rattle.schedule.specs.Taking.{atStart, NextPromise};
-ghost use Rattle.schedule.specs.Meaning.{judgementIs, foundIs, nextIs};
-use crate::judging::sound_file;
-use crate::judging::whole_scripts;
+ghost use Rattle.schedule.specs.Meaning.{admissionIs, foundIs, nextIs};
+use crate::sound::sound_file;
+use crate::sound::whole_scripts;
 use crate::table::body;
 use crate::taking::Order;
 use crate::taking::named_step;
 use crate::taking::order_byte;
-use replies::Answer;
 use replies::Refusal;
 
-// The judgement of a file: sound, with n and m, or refused.
-pub enum Judged {
+// The admission of a file: sound, with n and m, or refused.
+pub enum Admitted {
     Sound { handlers: u32, cells: u32 },
     Rejected(Refusal),
 }
@@ -33,7 +32,7 @@ pub enum Found {
 
 // Of each handler, the place in its script up to which it is used up.
 pub struct Cursors {
-    pub at: [usize; 16],
+    pub at: [usize; limits::HANDLER_TABLE],
 }
 
 // What comes next at an order place.
@@ -50,43 +49,17 @@ pub struct Step {
     pub cursors: Cursors,
 }
 
-// What a place shows: nothing where the order has no such place, a refusal where no step was taken, or the answer to a step.
-pub enum Shown {
-    Nothing,
-    NoStep {
-        handler: u32,
-        refusal: Refusal,
-    },
-    Asked {
-        handler: u32,
-        code: u32,
-        answer: Answer,
-    },
-}
-
-// What a place shows, and the cursors afterwards.
-pub struct Placed {
-    pub shown: Shown,
-    pub cursors: Cursors,
-}
-
-// What is shown of a cell at the end, if the register has such a cell.
-pub enum End {
-    Cell { value: u32, number: u32 },
-    Missing,
-}
-
-// Judges a file, before its first step.
-pub fn judge_file(file: &[u8]) -> Judged
-    ensures { λ r. ⌜ JudgePromise (now (file .entry)) (judgementIs r) ⌝ }
+// Admits a file or refuses it, before its first step.
+pub fn admit_file(file: &[u8]) -> Admitted
+    ensures { λ r. ⌜ AdmissionPromise (now (file .entry)) (admissionIs r) ⌝ }
 {
     if !sound_file(file) {
-        return Judged::Rejected(Refusal::BadFile);
+        return Admitted::Rejected(Refusal::BadFile);
     }
     if !whole_scripts(file) {
-        return Judged::Rejected(Refusal::UnknownStep);
+        return Admitted::Rejected(Refusal::UnknownStep);
     }
-    Judged::Sound {
+    Admitted::Sound {
         handlers: file[0] as u32,
         cells: file[1] as u32,
     }
@@ -123,7 +96,9 @@ pub fn script(file: &[u8], handler: u32) -> &[u8]
 pub fn at_start() -> Cursors
     ensures { λ r. ⌜ r .at ≡ atStart ⌝ }
 {
-    Cursors { at: [0; 16] }
+    Cursors {
+        at: [0; limits::HANDLER_TABLE],
+    }
 }
 
 // The next step at an order place.

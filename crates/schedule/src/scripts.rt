@@ -1,12 +1,12 @@
 // The steps of a script: whether it is whole, and what stands in front of what is left of it. Internal.
 ghost use mathlib.Core.Path.{_≡_};
 ghost use lib.ListN.{drop};
-ghost use Rattle.rules.specs.Codes.{kindOf};
+ghost use Rattle.rules.specs.steps.Codes.{plainSheet};
 ghost use Rattle.schedule.specs.Scripts.{isWhole};
 ghost use Rattle.schedule.specs.Fronts.{stepBytes, FrontOf};
 use crate::table::long_at;
+use checks::Kind;
 use replies::Refusal;
-use steps::Kind;
 
 // What stands in front of what is left of a script.
 pub enum Front {
@@ -16,9 +16,9 @@ pub enum Front {
 
 // The bytes that a step takes, its value with it; 0 where the code is unknown.
 fn step_bytes(code: u8) -> usize
-    ensures { λ r. ⌜ r ≡ stepBytes (kindOf code) ⌝ }
+    ensures { λ r. ⌜ r ≡ stepBytes (plainSheet code) ⌝ }
 {
-    match steps::kind_of(code as u32) {
+    match checks::kind_of(code as u32) {
         Kind::Begin => 1,
         Kind::Try => 1,
         Kind::Read(_) => 1,

@@ -2,13 +2,14 @@
 ghost use mathlib.Core.Path.{_≡_};
 ghost use Prim.Native.Nat.{ℕ, _+_, _<_, _≤_};
 ghost use lib.ListN.{length};
-ghost use Rattle.schedule.specs.Bytes.{shortAt, longAt, bodyOf};
+ghost use Rattle.limits.specs.Limits.{mostFileBytes};
+ghost use Rattle.schedule.specs.Bytes.{shortAt, longAt, entryBody};
 ghost use Rattle.schedule.specs.Sound.{SoundTable, isSoundTable};
 
 // The 16-bit number at a place.
 fn short_at(bytes: &[u8], place: usize) -> usize
     requires { ⌜ place + 1 < length (now bytes) ⌝ }
-    ensures { λ r. ⌜ (r ≡ shortAt (now (bytes .entry)) place) × (r ≤ 65535) ⌝ }
+    ensures { λ r. ⌜ (r ≡ shortAt (now (bytes .entry)) place) × (r ≤ mostFileBytes) ⌝ }
 {
     let high = bytes[place] as usize;
     let low = bytes[place + 1] as usize;
@@ -27,7 +28,7 @@ pub fn long_at(bytes: &[u8], place: usize) -> u32
 
 // Whether a table is sound.
 pub fn sound_table(file: &[u8], start: usize, entries: usize) -> bool
-    requires { ⌜ (start ≤ 65535) × (entries ≤ 65535) ⌝ }
+    requires { ⌜ (start ≤ mostFileBytes) × (entries ≤ mostFileBytes) ⌝ }
     ensures { λ r. ⌜ r ≡ isSoundTable (now (file .entry)) start entries ⌝ }
 {
     let end = start + 4 * entries;
@@ -49,7 +50,7 @@ pub fn sound_table(file: &[u8], start: usize, entries: usize) -> bool
 // The body of an entry of a sound table, as the very part of the file.
 pub fn body(file: &[u8], start: usize, k: usize) -> &[u8]
     requires { ⌜ ((entries : ℕ) × SoundTable (now file) start entries × (k < entries)) ⌝ }
-    ensures { λ r. ⌜ now r ≡ bodyOf (now (file .entry)) start k ⌝ }
+    ensures { λ r. ⌜ now r ≡ entryBody (now (file .entry)) start k ⌝ }
 {
     let at = start + 4 * k;
     let from = short_at(file, at);

@@ -5,9 +5,9 @@ ghost use Rattle.schedule.specs.Fronts.{OrderOf, NamedNext};
 use crate::Cursors;
 use crate::Next;
 use crate::Step;
-use crate::judging::sound_file;
 use crate::scripts::Front;
 use crate::scripts::in_front;
+use crate::sound::sound_file;
 use crate::table::body;
 use replies::Refusal;
 

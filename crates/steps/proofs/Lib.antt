@@ -1,5 +1,7 @@
--- Laws of step codes and of the checks of a step.
-pub mod Codes
-pub mod Refusing
-pub mod Tight
-pub mod OneStep
+-- Laws of the steps over a whole register.
+pub mod Lent
+pub mod Said
+pub mod Reading
+pub mod Storing
+pub mod Trying
+pub mod Committing

@@ -1,2 +1,3 @@
--- What the enums of this crate mean in the rules.
-pub mod Meaning
+-- What the steps over a whole body require and leave.
+pub mod Takes
+pub mod Stores

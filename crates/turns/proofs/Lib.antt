@@ -1,7 +1,4 @@
--- Laws of the steps over a whole register.
-pub mod Lent
-pub mod Said
-pub mod Reading
-pub mod Storing
-pub mod Trying
-pub mod Committing
+-- Laws of a turn.
+pub mod Refusing
+pub mod Taking
+pub mod Turning

@@ -1,13 +1,63 @@
-// The steps on a whole register: where each part lies, and the handler's block lent on to be written.
+// A turn on a register's body, whatever stands in front of it: the checks of a step, then the step.
 // Internal: called by our crates alone, which show what each function requires.
+mod take;
 
-mod places;
-mod single;
-mod store;
-mod tries;
+ghost use mathlib.Core.Path.{_≡_};
+ghost use Prim.Native.Nat.{_≤_};
+ghost use Rattle.rules.specs.steps.Codes.{Sheet};
+ghost use Rattle.rules.specs.steps.Register.{hasOpen};
+ghost use Rattle.limits.specs.Limits.{mostHandlers};
+ghost use Rattle.layout.specs.View.{view};
+ghost use Rattle.promises.specs.Bodies.{BodyPromise};
+ghost use Rattle.replies.specs.Meaning.{replyIs};
+ghost use Rattle.checks.specs.Meaning.{kindIs};
+ghost use Rattle.steps.specs.Takes.{Formed, WholeBody};
+use crate::take::take;
+use checks::Kind;
+use checks::Verdict;
+use replies::Answer;
+use replies::Report;
 
-pub use single::begin;
-pub use single::is_open;
-pub use single::read;
-pub use single::write;
-pub use tries::attempt;
+// Whether a handler's transaction is open; of handler n or above there is none.
+fn has_open(body: &[u32], m: usize, n: usize, handler: u32) -> bool
+    requires { ⌜ Formed m n (now body) × (n ≤ mostHandlers) ⌝ }
+    ensures { λ r. ⌜ r ≡ hasOpen (view m n (now (body .entry)) .handlers handler) ⌝ }
+{
+    let i = handler as usize;
+    if n <= i {
+        return false;
+    }
+    steps::is_open(body, m, n, i)
+}
+
+// Takes the step of a handler, or refuses it. What its code stands for is the caller's to say: it holds under every sheet that gives
+// the code this kind.
+pub fn turn(
+    body: &mut [u32],
+    m: usize,
+    n: usize,
+    handler: u32,
+    code: u32,
+    kind: Kind,
+    value: u32,
+) -> Answer
+    requires { ⌜ WholeBody m n (now body) ⌝ }
+    ensures { λ r. ⌜ ((sheet : Sheet) → sheet code ≡ kindIs kind
+        → BodyPromise sheet m n (now (body .entry)) handler code value (replyIs r) (now (body .exit))) ⌝ }
+{
+    let opened = has_open(body, m, n, handler);
+    let handlers = n as u32;
+    let verdict = checks::verdict_of(m, handlers, handler, kind, opened);
+    match verdict {
+        Verdict::Refuses(refusal) => Answer::Refused(refusal),
+        Verdict::Passes => {
+            let i = handler as usize;
+            let outcome = take(body, m, n, i, kind, value);
+            Answer::Reported(Report {
+                handler,
+                code,
+                outcome,
+            })
+        }
+    }
+}

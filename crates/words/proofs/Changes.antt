@@ -6,7 +6,7 @@ use native.Mathlib.Omega.{arith}
 use native.Mathlib.Nat.{zero-add}
 use borrow.Author.Count.{below-more}
 use borrow.Author.Tests.{ltb-true, ltb-false}
-use Rattle.rules.proofs.Tables.{by, SameFrom}
+use Rattle.rules.proofs.steps.Tables.{by, SameFrom}
 use lib.Dec.{ltb}
 use lib.ListN.{length, getD, set, replicate, length-set}
 use lib.Seq.{getD-set-same, getD-set-other}
@@ -43,6 +43,11 @@ module _ (from : ℕ) (table : ℕ → ℕ) (words : List ℕ) where
       → Changed from all table words after
   changed-all {count} {all} {after} changed most least =
       subst (λ k. Changed from k table words after) (let same : count ≡ all = omega arith in same) changed
+
+-- What is changed from a place that was computed is changed from that place.
+pub changed-at : {from place count : ℕ} {table : ℕ → ℕ} {words after : List ℕ} → from ≡ place → Changed from count table words after
+    → Changed place count table words after
+changed-at {count = count} {table = table} {words = words} {after = after} same = subst (λ k. Changed k count table words after) same
 
 -- A word of a row of zeros.
 zeros-at : (long y : ℕ) → _≡_ {A = ℕ} (getD (replicate long 0) y 0) 0

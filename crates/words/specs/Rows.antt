@@ -1,3 +1,4 @@
+-- For internal contracts alone: what our own functions are called with and leave. Nothing here need be believed.
 -- What the functions over rows of words do: some words become those of a table, or a row is one of a table.
 use Prim.Native.Nat.{ℕ, _+_, _≤_, _<_}
 use mathlib.Core.Path.{_≡_}

@@ -3,14 +3,15 @@
 ghost use mathlib.Core.Path.{_≡_};
 ghost use Prim.Native.Nat.{_+_, _≤_, _<_};
 ghost use lib.ListN.{length, getD};
-ghost use Rattle.rules.specs.Register.{zeros};
+ghost use Rattle.rules.specs.steps.Register.{zeros};
+ghost use Rattle.limits.specs.Limits.{mostCells};
 ghost use Rattle.layout.specs.Bits.{hasBit};
 ghost use Rattle.layout.proofs.Bits.{withBit};
 ghost use Rattle.words.specs.Rows.{Changed, RowOf};
 
 // Whether cell c is in the set.
 pub fn has(set: u32, c: usize) -> bool
-    requires { ⌜ c < 32 ⌝ }
+    requires { ⌜ c < mostCells ⌝ }
     ensures { λ r. ⌜ r ≡ hasBit set c ⌝ }
 {
     (set >> c) % 2 == 1
@@ -18,7 +19,7 @@ pub fn has(set: u32, c: usize) -> bool
 
 // The set with cell c.
 pub fn with_cell(set: u32, c: usize) -> u32
-    requires { ⌜ c < 32 ⌝ }
+    requires { ⌜ c < mostCells ⌝ }
     ensures { λ r. ⌜ r ≡ withBit set c ⌝ }
 {
     if has(set, c) { set } else { set + (1u32 << c) }
@@ -44,21 +45,21 @@ pub fn copy(words: &mut [u32], from: usize, to: usize, count: usize)
     }
 }
 
-// A row of at most 32 words, copied out.
-pub fn copy_out(words: &[u32], from: usize, count: usize) -> [u32; 32]
-    requires { ⌜ (from + count ≤ length (now words)) × (count ≤ 32) ⌝ }
+// A row of a word a cell, copied out.
+pub fn copy_out(words: &[u32], from: usize, count: usize) -> [u32; limits::ROW]
+    requires { ⌜ (from + count ≤ length (now words)) × (count ≤ mostCells) ⌝ }
     ensures { λ r. ⌜ RowOf count (λ y. getD (now (words .entry)) (from + y) 0) r ⌝ }
 {
-    let mut row = [0u32; 32];
+    let mut row = [0u32; limits::ROW];
     for y in 0..count {
         row[y] = words[from + y];
     }
     row
 }
 
-// A row of at most 32 words, copied in.
-pub fn copy_in(words: &mut [u32], to: usize, count: usize, row: &[u32; 32])
-    requires { ⌜ (to + count ≤ length (now words)) × (count ≤ 32) ⌝ }
+// A row of a word a cell, copied in.
+pub fn copy_in(words: &mut [u32], to: usize, count: usize, row: &[u32; limits::ROW])
+    requires { ⌜ (to + count ≤ length (now words)) × (count ≤ mostCells) ⌝ }
     ensures { λ _. ⌜ Changed to count (λ y. getD (now (row .entry)) y 0) (now (words .entry)) (now (words .exit)) ⌝ }
 {
     for y in 0..count {

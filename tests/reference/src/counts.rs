@@ -1,16 +1,20 @@
-//! How often each kind of thing was met in a comparison, by its name.
+//! How often each kind of thing was met in a comparison, by its name. A comparison of random files that never met what it is for
+//! would show nothing.
+use crate::lines::Run;
 use crate::register::Reply;
-use crate::schedule::Run;
 use std::collections::BTreeMap;
 
+/// How often each name was met.
 #[derive(Default)]
 pub struct Counts(BTreeMap<String, u64>);
 
 impl Counts {
+    /// Notes a name once more.
     pub fn note(&mut self, name: &str) {
         self.add(name, 1);
     }
 
+    /// Notes a name so many times more.
     pub fn add(&mut self, name: &str, times: u64) {
         *self.0.entry(name.into()).or_default() += times;
     }
@@ -36,6 +40,7 @@ impl Counts {
         names.iter().copied().filter(|&name| self.of(name) == 0).collect()
     }
 
+    /// All names with their counts, in one line.
     pub fn shown(&self) -> String {
         let counts: Vec<_> = self.0.iter().map(|(name, times)| format!("{name} {times} times")).collect();
         counts.join(", ")

@@ -1,8 +1,10 @@
-//! A schedule written down in the order in which it is taken, beside a register that says what each step comes to.
-use crate::generate::{read, write_value, Parts, BEGIN, TRY};
+//! A schedule written down in the order in which it is taken, beside a register that says what each step comes to: so a schedule
+//! can be led to what it is meant to show, and a reader of it needs no order bytes.
+use crate::generate::Parts;
 use crate::register::{self, Reply};
-use crate::schedule::Step;
+use crate::steps::{read, write, Step, BEGIN, TRY};
 
+/// The schedule up to here: its scripts and its order, the register's words, who has a transaction open, and how many committed.
 #[derive(Clone, Debug)]
 pub struct Course {
     cells: u8,
@@ -14,6 +16,7 @@ pub struct Course {
 }
 
 impl Course {
+    /// A schedule with no step yet.
     pub fn new(cells: u8, handlers: usize) -> Self {
         let (m, n) = (cells.into(), handlers as u32);
         let mut words = vec![0; register::length(m, n).expect("sizes in range")];
@@ -21,10 +24,12 @@ impl Course {
         Course { cells, scripts: vec![Vec::new(); handlers], order: Vec::new(), words, open: vec![false; handlers], commits: 0 }
     }
 
+    /// How many cells there are.
     pub fn cells(&self) -> u8 {
         self.cells
     }
 
+    /// How many handlers there are.
     pub fn handlers(&self) -> usize {
         self.scripts.len()
     }
@@ -34,6 +39,7 @@ impl Course {
         self.commits
     }
 
+    /// Whether a handler has a transaction open.
     pub fn is_open(&self, handler: usize) -> bool {
         self.open[handler]
     }
@@ -87,11 +93,13 @@ impl Course {
         }
     }
 
+    /// The schedule's file.
     pub fn file(&self) -> Vec<u8> {
         Parts::new(self.cells, &self.scripts, self.order.clone()).file()
     }
 }
 
+/// The number that a text of digits stands for.
 fn number(text: &str) -> u32 {
     text.parse().expect(text)
 }
@@ -104,7 +112,7 @@ fn step(name: &str) -> Option<Step> {
         ("begin", ..) => Some(BEGIN),
         ("try", ..) => Some(TRY),
         (_, Some(read_cell), _) => Some(read(cell(read_cell))),
-        (_, _, Some((written, value))) => Some(write_value(cell(written), number(value))),
+        (_, _, Some((written, value))) => Some(write(cell(written), number(value))),
         _ => panic!("{name} is no step"),
     }
 }

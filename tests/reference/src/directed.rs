@@ -7,6 +7,7 @@ mod short;
 use crate::course::Course;
 pub use pasts::largest_past;
 
+/// A schedule with its name, and with what it has to come to.
 pub struct Directed {
     pub name: String,
     pub file: Vec<u8>,
@@ -14,6 +15,7 @@ pub struct Directed {
     pub last: &'static str,
 }
 
+/// The schedule of a course.
 fn directed(name: &str, course: &Course, last: &'static str) -> Directed {
     Directed { name: name.into(), file: course.file(), last }
 }
@@ -36,14 +38,14 @@ pub fn last_place(printed: &str) -> &str {
 #[cfg(test)]
 mod tests {
     use super::*;
-    use crate::{judge, schedule};
+    use crate::{judge, runner};
 
     #[test]
     fn each_comes_to_what_it_says() {
         for Directed { name, file, last } in all() {
             let printed = judge::printed(&file);
             assert!(last_place(&printed).ends_with(last), "{name}: {printed}");
-            assert_eq!(judge::cut(&schedule::printed(&file)), printed, "{name}");
+            assert_eq!(judge::cut(&runner::printed(&file)), printed, "{name}");
         }
     }
 

@@ -1,4 +1,5 @@
 //! Bytes as commented hexadecimal text: pairs of digits, blanks anywhere between digits, and `#` up to the end of its line.
+//! The examples are written so, and a comparison shows the file of a difference so.
 
 /// The bytes of a text, or what is wrong with it.
 pub fn bytes(text: &str) -> Result<Vec<u8>, String> {

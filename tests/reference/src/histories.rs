@@ -1,10 +1,10 @@
 //! Random schedules for the judge: rich in commits, with pasts that are long and thin, readers that stay open over many commits,
 //! and steps of every kind between the 64th commit and the 65th.
 use crate::course::Course;
-use crate::generate::{one_of, read, write, BEGIN, TRY};
+use crate::generate::any_write;
 use crate::judge::MOST;
 use crate::random::Random;
-use crate::schedule::Step;
+use crate::steps::{read, Step, BEGIN, TRY};
 
 /// A schedule as it grows: the first handlers read over a long time, the others take whole transactions, and the last is silent.
 struct Growing {
@@ -19,8 +19,9 @@ struct Growing {
 }
 
 impl Growing {
+    /// A schedule with no step yet, and what it is to become.
     fn new(random: &mut Random) -> Self {
-        let most_cells = one_of(random, &[3, 8, 16, 32, 32]);
+        let most_cells = random.one_of(&[3, 8, 16, 32, 32]);
         let handlers = random.within(3, 16) as usize;
         Growing {
             course: Course::new(random.within(1, most_cells) as u8, handlers),
@@ -36,6 +37,7 @@ impl Growing {
         [self.goal, MOST].contains(&self.course.commits())
     }
 
+    /// Any cell.
     fn any_cell(&self, random: &mut Random) -> u8 {
         random.below(self.course.cells().into()) as u8
     }
@@ -45,18 +47,20 @@ impl Growing {
         let late = &self.written[self.written.len().saturating_sub(4)..];
         match late.is_empty() || random.once_in(2) {
             true => read(self.any_cell(random)),
-            false => read(one_of(random, late)),
+            false => read(random.one_of(late)),
         }
     }
 
+    /// A write of any cell, which is noted as written.
     fn write(&mut self, random: &mut Random) -> Step {
         let cell = self.any_cell(random);
         self.written.push(cell);
-        write(random, cell)
+        any_write(random, cell)
     }
 
+    /// Any of the handlers that read over a long time.
     fn reader(&self, random: &mut Random) -> usize {
-        random.below(self.readers as u64) as usize
+        random.place(self.readers)
     }
 
     /// A handler for a whole transaction: now and then a reader that has none open, since it ended in an abort.
@@ -70,7 +74,7 @@ impl Growing {
 
     /// A whole transaction, which commits: of nothing, of reads, of writes or of both.
     fn transaction(&mut self, random: &mut Random) {
-        let (reads, writes) = one_of(random, &[(0, 0), (1, 0), (2, 0), (0, 1), (0, 1), (0, 2), (1, 1), (1, 1), (2, 1), (1, 2)]);
+        let (reads, writes) = random.one_of(&[(0, 0), (1, 0), (2, 0), (0, 1), (0, 1), (0, 2), (1, 1), (1, 1), (2, 1), (1, 2)]);
         let mut steps: Vec<Step> = (0..reads).map(|_| self.read(random)).collect();
         steps.extend((0..writes).map(|_| self.write(random)).collect::<Vec<_>>());
         if random.once_in(6) {
@@ -87,6 +91,7 @@ impl Growing {
         self.course.take(handler, step);
     }
 
+    /// A step of a reader: mostly a read.
     fn access(&mut self, random: &mut Random) -> Step {
         match random.once_in(8) {
             true => self.write(random),
@@ -113,7 +118,7 @@ impl Growing {
             if self.is_full() {
                 break;
             }
-            seen.push(write(random, cell));
+            seen.push(any_write(random, cell));
             self.course.transaction(writer, &seen);
             seen = if random.once_in(10) { Vec::new() } else { vec![read(cell)] };
             self.written.push(cell);
@@ -122,6 +127,7 @@ impl Growing {
         self.goes_on(reader, read(self.written.last().copied().unwrap_or(cell)));
     }
 
+    /// What comes next: a reader's step or try, a chain of commits, or one whole transaction.
     fn turn(&mut self, random: &mut Random) {
         match (random.once_in(self.reader_in), random.once_in(10)) {
             (true, true) => self.goes_on(self.reader(random), TRY),
@@ -186,14 +192,14 @@ pub fn file(random: &mut Random) -> Vec<u8> {
 #[cfg(test)]
 mod tests {
     use super::*;
-    use crate::{judge, schedule};
+    use crate::{judge, runner};
 
     #[test]
     fn the_judge_prints_what_the_runner_does_up_to_a_65th_commit() {
         let mut random = Random::new(7);
         for _ in 0..100 {
             let file = file(&mut random);
-            assert_eq!(judge::printed(&file), judge::cut(&schedule::printed(&file)));
+            assert_eq!(judge::printed(&file), judge::cut(&runner::printed(&file)));
         }
     }
 

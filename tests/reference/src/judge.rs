@@ -1,7 +1,9 @@
 //! The judge of document 01: what each step comes to, worked out from the history alone, up to a 65th commit. There are no
 //! dependency numbers here: a causal past is asked of the versions that were read and of the handlers' earlier commits.
+use crate::lines::{self, Cell, Run};
 use crate::register::Reply;
-use crate::schedule::{self, Cell, Run, Step};
+use crate::schedule;
+use crate::steps::Step;
 use std::collections::{BTreeMap, BTreeSet};
 
 /// The commits that are noted at most.
@@ -35,6 +37,7 @@ pub struct History {
 }
 
 impl History {
+    /// The history of a register just opened.
     fn new(cells: usize, handlers: usize) -> Self {
         History { cells, commits: Vec::new(), open: vec![None; handlers], links: Vec::new() }
     }
@@ -161,8 +164,11 @@ impl History {
     }
 }
 
-/// Judges a file's run: its lines, the last of them a 33 if it comes to that, and the history; or the number of its refusal.
-pub fn run(file: &[u8]) -> Result<(Run, History), u32> {
+/// What the judge makes of a file: the run and the history, or the number of its refusal.
+pub type Judged = Result<(Run, History), u32>;
+
+/// Judges a file's run. The last of its lines is a 33 if it comes to that.
+pub fn run(file: &[u8]) -> Judged {
     let schedule = schedule::judge(file)?;
     let mut history = History::new(schedule.cells as usize, schedule.handlers as usize);
     let mut run = Run { handlers: schedule.handlers, cells: schedule.cells, lines: Vec::new(), left: Vec::new() };
@@ -178,11 +184,8 @@ pub fn run(file: &[u8]) -> Result<(Run, History), u32> {
 }
 
 /// The lines of a judged run, or the one line of a refused file.
-pub fn shown(judged: &Result<(Run, History), u32>) -> String {
-    match judged {
-        Ok((run, _)) => run.to_string(),
-        Err(number) => schedule::refused(*number),
-    }
+pub fn shown(judged: &Judged) -> String {
+    lines::shown(judged.as_ref().map(|(run, _)| run))
 }
 
 /// What the judge prints for a file, whatever it holds.

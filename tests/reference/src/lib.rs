@@ -8,9 +8,14 @@ pub mod generate;
 pub mod hexadecimal;
 pub mod histories;
 pub mod judge;
+pub mod lines;
 pub mod program;
+/// The proved register, linked from its static library: as the library for Rust declares it, so that this is said once.
 #[cfg(feature = "proved")]
+#[path = "../../../rust/src/raw.rs"]
 pub mod proved;
 pub mod random;
 pub mod register;
+pub mod runner;
 pub mod schedule;
+pub mod steps;

@@ -1,5 +1,7 @@
-//! Opening a register, and its steps, over words as document 01 lays them out.
+//! Opening a register, and its steps, over words as document 01 lays them out: m cells and n handlers, and X, Y and Z for cells, as
+//! they are called there.
 
+/// What a step comes to: an abort with its reason, a refusal with its number.
 #[derive(Clone, Copy, Debug, PartialEq, Eq)]
 pub enum Reply {
     Ok,
@@ -9,6 +11,21 @@ pub enum Reply {
     Refused(u32),
 }
 
+impl Reply {
+    /// The reply in one number, as the functions for C give it: kind · 2^32 + value, reason or number.
+    pub fn packed(self) -> u64 {
+        let (kind, detail) = match self {
+            Reply::Ok => (0, 0),
+            Reply::Value(value) => (1, value),
+            Reply::Commit => (2, 0),
+            Reply::Abort(reason) => (3, reason),
+            Reply::Refused(number) => (4, number),
+        };
+        (kind << 32) | u64::from(detail)
+    }
+}
+
+/// What a code stands for, with its cell.
 enum Step {
     Begin,
     Try,
@@ -16,6 +33,7 @@ enum Step {
     Write(usize),
 }
 
+/// The step that a code stands for; none for an unknown one.
 fn decode(code: u32) -> Option<Step> {
     Some(match code {
         0 => Step::Begin,
@@ -108,22 +126,27 @@ struct Open<'a> {
 }
 
 impl Open<'_> {
+    /// A cell's words: its value and its m dependency numbers.
     fn cell(&self, x: usize) -> &[u32] {
         &self.cells[x * (self.m + 1)..(x + 1) * (self.m + 1)]
     }
 
+    /// A cell's dependency number for itself.
     fn own_number(&self, x: usize) -> u32 {
         self.cell(x)[1 + x]
     }
 
+    /// Whether a cell is in the read set.
     fn is_read(&self, x: usize) -> bool {
         self.block[1] >> x & 1 == 1
     }
 
+    /// Whether a cell is in the written set.
     fn is_written(&self, x: usize) -> bool {
         self.block[2] >> x & 1 == 1
     }
 
+    /// Begin: the sets become empty, the transaction's numbers the handler's, and the copies 0.
     fn begin(&mut self) -> Reply {
         let m = self.m;
         self.block[0] = 1;
@@ -141,6 +164,7 @@ impl Open<'_> {
         self.block[3 + m..].fill(0);
     }
 
+    /// Read: the copy of a cell that is in a set, or else a first read, which may abort.
     fn read(&mut self, x: usize) -> Reply {
         let m = self.m;
         if self.is_read(x) || self.is_written(x) {
@@ -164,12 +188,14 @@ impl Open<'_> {
         Reply::Value(value)
     }
 
+    /// Write: the copy becomes the value.
     fn write(&mut self, x: usize, value: u32) -> Reply {
         self.block[3 + 2 * self.m + x] = value;
         self.block[2] |= 1 << x;
         Reply::Ok
     }
 
+    /// Try: abort 2 where a read cell has another number now, abort 3 where a written one's number is spent, or else a commit.
     fn attempt(&mut self) -> Reply {
         let m = self.m;
         if (0..m).any(|z| self.is_read(z) && self.block[3 + m + z] != self.own_number(z)) {
@@ -202,6 +228,7 @@ impl Open<'_> {
 mod tests {
     use super::*;
 
+    /// The replies to some steps on a fresh register, and the words then.
     fn run(m: u32, n: u32, steps: &[(u32, u32, u32)]) -> (Vec<Reply>, Vec<u32>) {
         let mut words = vec![7; length(m, n).unwrap()];
         open(&mut words, m, n).unwrap();

@@ -1,11 +1,12 @@
 //! The directed schedules of `examples/`: the bytes are those of the commented text, and runner and judge print what is expected.
 //! The programs in C there have an expected output too; the gate compiles and runs them.
-use reference::{hexadecimal, judge, schedule};
+use reference::{hexadecimal, judge, runner};
 use std::collections::BTreeSet;
 use std::ffi::OsStr;
 use std::fs;
 use std::path::{Path, PathBuf};
 
+/// The folder of the examples.
 fn folder() -> PathBuf {
     Path::new(env!("CARGO_MANIFEST_DIR")).join("../../examples")
 }
@@ -17,10 +18,12 @@ fn names(ending: &str) -> BTreeSet<String> {
     chosen.filter_map(|path| Some(path.file_stem()?.to_str()?.to_owned())).collect()
 }
 
+/// What an example's file with such an ending says.
 fn text(name: &str, ending: &str) -> String {
     fs::read_to_string(folder().join(format!("{name}.{ending}"))).expect(name)
 }
 
+/// An example's schedule file.
 fn bytes(name: &str) -> Vec<u8> {
     fs::read(folder().join(format!("{name}.bin"))).expect(name)
 }
@@ -43,7 +46,7 @@ fn the_bytes_are_those_of_the_text() {
 #[test]
 fn the_run_prints_what_is_expected() {
     for name in names("bin") {
-        assert_eq!(schedule::printed(&bytes(&name)), text(&name, "out"), "{name}");
+        assert_eq!(runner::printed(&bytes(&name)), text(&name, "out"), "{name}");
     }
 }
 

@@ -1,7 +1,7 @@
 -- `answers::has_later` meets its contract: no commit passed is marked and wrote a later version.
 use Prim.Native.Nat.{_+_, _-_, _≤_}
 use native.Mathlib.Omega.{arith}
-use Rattle.rules.proofs.Searches.{NoneBelow, search-goes, search-hits, search-misses}
+use Rattle.rules.proofs.steps.Searches.{NoneBelow, search-goes, search-hits, search-misses}
 use Rattle.ledger.proofs.Versions.{isLater, later-at}
 use Rattle.past.specs.Marks.{marked}
 use Rattle.answers.proofs.has_later.Statement.{statement}

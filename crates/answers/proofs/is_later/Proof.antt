@@ -11,12 +11,11 @@ is-later-spec =
     tie.close
     (tie.spec
     (λ c κs. omega arith)
-    (λ c. omega arith)
     (λ c κs. omega arith)
     -- the commit is later and marked
     (λ c. let isMarked = sym (c .before .before .is-marked .ensures) ∙ c .before .if2 .taken in
     let isLater = lt-ltb _ _ (c .before .before .before .if1 .taken) in
-    c .wrote .ensures ∙ sym (rw (isMarked, isLater) (and-true _)))
+    c .commit-wrote .ensures ∙ sym (rw (isMarked, isLater) (and-true _)))
     -- it is not marked
     (λ c. let unmarked = sym (c .before .is-marked .ensures) ∙ c .if2 .left in
     sym (rw unmarked))

@@ -1,7 +1,7 @@
 -- `answers::is_outdated` meets its contract: where a source is noted, it is asked for a later version.
 use native.Mathlib.Omega.{arith}
 use mathlib.Core.Path.{sym, _∙_}
-use Rattle.rules.specs.Past.{outdated}
+use Rattle.rules.specs.history.Past.{outdated}
 use Rattle.ledger.proofs.Deeds.{look-none, look-noted}
 use Rattle.answers.proofs.is_outdated.Statement.{statement}
 use Rattle.answers.proofs.is_outdated.Tie as tie

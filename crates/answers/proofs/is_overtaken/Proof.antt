@@ -1,7 +1,7 @@
 -- `answers::is_overtaken` meets its contract: where a source is noted, it is compared with the writer.
 use native.Mathlib.Omega.{arith}
 use mathlib.Core.Path.{sym}
-use Rattle.rules.specs.Judge.{stale}
+use Rattle.rules.specs.demand.Judge.{stale}
 use Rattle.ledger.proofs.Deeds.{look-none, look-noted}
 use Rattle.answers.proofs.is_overtaken.Statement.{statement}
 use Rattle.answers.proofs.is_overtaken.Tie as tie

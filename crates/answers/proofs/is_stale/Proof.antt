@@ -2,8 +2,8 @@
 use Prim.Native.Nat.{_-_, _≤_}
 use native.Mathlib.Omega.{arith}
 use mathlib.Core.Path.{refl}
-use Rattle.rules.specs.Judge.{stale}
-use Rattle.rules.proofs.Searches.{NoneBelow, search-goes, search-hits, search-misses}
+use Rattle.rules.specs.demand.Judge.{stale}
+use Rattle.rules.proofs.steps.Searches.{NoneBelow, search-goes, search-hits, search-misses}
 use Rattle.ledger.specs.Entries.{entryIn}
 use Rattle.ledger.specs.Histories.{deedsOf, commitsIn}
 use Rattle.answers.proofs.is_stale.Statement.{statement}

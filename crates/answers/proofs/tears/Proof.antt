@@ -4,9 +4,9 @@ use native.Mathlib.Omega.{arith}
 use mathlib.Core.Path.{_≡_, sym, _∙_}
 use mathlib.Core.Bool.{Bool}
 use mathlib.Core.List.{List}
-use Rattle.rules.specs.Tables.{someBelow}
-use Rattle.rules.specs.Past.{upTo, outdated, tears}
-use Rattle.rules.proofs.Searches.{NoneBelow, search-goes, search-hits, search-misses}
+use Rattle.rules.specs.steps.Tables.{someBelow}
+use Rattle.rules.specs.history.Past.{upTo, outdated, tears}
+use Rattle.rules.proofs.steps.Searches.{NoneBelow, search-goes, search-hits, search-misses}
 use Rattle.ledger.specs.Entries.{entryIn}
 use Rattle.ledger.specs.Histories.{deedsOf, commitsIn}
 use Rattle.ledger.proofs.Commits.{upTo-first}

@@ -9,8 +9,10 @@ use Rattle.formed.proofs.block_faults.Tie as tie
 -- The faults that are summed are the block's.
 returns : tie.Need-returns
 returns c =
-    let words = c .before .before .before .before .before .shared-slice-known .given in
-    block-sum _ _ (omega arith) (λ place. words place .fits) (c .row-faults .ensures)
+    let copies = c .before .before in
+    let phase = copies .before .before .before in
+    let words = phase .before .shared-slice-known2 .given in
+    block-sum _ _ _ (omega arith) (λ place. words place .fits) (copies .copies .ensures) (phase .phase-fault .ensures) (c .row-faults .ensures)
 
 pub block-faults-spec : {M : Type 1} → statement M
 block-faults-spec =
@@ -18,19 +20,19 @@ block-faults-spec =
     (tie.spec
     -- phase and sets
     (λ c. search needs)
+    (λ c κs. search needs)
     (λ c. search needs)
     (λ c. search needs)
     (λ c. fits-32-64 (fits-or (c .before .shared-slice-known3 .given _) (c .shared-slice-known4 .given _)))
     (λ c. search needs)
     -- the row of numbers
-    (λ c. search needs)
-    (λ c. search needs)
+    (λ c κs. search needs)
     (λ c. search needs)
     (λ c. search needs)
     (λ c. search needs)
     (λ c κs. search needs)
     -- the sums
-    (λ c. omega (arith, returns c .small))
+    (λ c. search needs)
     (λ c. omega (arith, returns c .small))
     (λ c. search needs)
     (λ c. omega (arith, returns c .small))

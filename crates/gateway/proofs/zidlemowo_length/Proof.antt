@@ -1,13 +1,13 @@
 -- `gateway::zidlemowo_length` meets its promise: the register's answer as a number.
 use Prim.Native.Nat.{ℕ, _≤_}
-use mathlib.Core.Path.{_≡_, sym, ap, _∙_}
+use mathlib.Core.Path.{_≡_, refl, sym, ap, _∙_}
 use mathlib.Core.Option.{some, Option·some-injective, Option·some-ne-none}
 use native.Mathlib.Omega.{arith}
 use borrow.Author.Needs.{needs}
-use Rattle.rules.specs.Checks.{inRange}
-use Rattle.rules.proofs.Given.{range-tested}
-use Rattle.rules.proofs.Tables.{by}
-use Rattle.layout.proofs.Places.{size-small}
+use Rattle.rules.specs.steps.Checks.{inRange}
+use Rattle.rules.proofs.steps.Given.{range-tested}
+use Rattle.rules.proofs.steps.Tables.{by}
+use Rattle.layout.proofs.Places.{body-small}
 use Rattle.promises.specs.Lengths.{lengthFor}
 use Rattle.register.specs.Meaning.{neededIs}
 use Rattle.gateway.specs.Packed.{lengthNumber}
@@ -19,7 +19,7 @@ at-most : (m n k : ℕ) → some k ≡ lengthFor m n → k ≤ 2642
 unfolding lengthFor
 at-most m n k e = by (inRange m n)
     (λ ranged. let range = range-tested m n .0 ranged in
-    omega (arith, Option·some-injective _ _ (rw ranged at e), size-small m n (range .cells) (range .handlers)))
+    omega (arith, Option·some-injective _ _ (rw ranged at e), body-small m n (range .cells) (range .handlers)))
     (λ out. absurd (Option·some-ne-none k (rw out at e)))
 
 -- The length that the register answered.
@@ -34,6 +34,9 @@ zidlemowo-length-spec =
     (λ c. search needs)
     (λ c. omega (arith, at-most _ _ _ (answered (c .before))))
     (λ c. search needs)
-    (λ c. record { replied = ap lengthNumber (answered (c .before)) })
+    (λ c. record { replied = ap lengthNumber (answered (c .before)); left = refl })
     (λ c. let needed = c .before .before .words-needed in
-    record { replied = ap (λ answer. lengthNumber (neededIs answer)) (sym (c .enum-told .given .1)) ∙ ap lengthNumber (needed .ensures .replied) }))
+    record {
+      replied = ap (λ answer. lengthNumber (neededIs answer)) (sym (c .enum-told .given .1)) ∙ ap lengthNumber (needed .ensures .replied);
+      left = refl;
+    }))

@@ -1,7 +1,7 @@
 -- `gateway::zidlemowo_open` meets its promise: the register's, with its reply as a number.
 use mathlib.Core.Path.{sym, ap, _∙_}
 use borrow.Author.Needs.{needs}
-use Rattle.replies.specs.Meaning.{openingOf}
+use Rattle.replies.specs.Meaning.{openingIs}
 use Rattle.gateway.specs.Packed.{openingNumber}
 use Rattle.gateway.proofs.zidlemowo_open.Statement.{statement}
 use Rattle.gateway.proofs.zidlemowo_open.Tie as tie
@@ -17,12 +17,16 @@ zidlemowo-open-spec =
     (λ c. search needs)
     -- ready
     (λ c. let opens = c .before .before .before .before .«open» in
-    record { reply = _; replied = ap (λ answer. openingNumber (openingOf answer)) (sym (c .enum-told .given .1)); opens = opens .ensures })
+    record {
+      replied = ap (λ answer. openingNumber (openingIs answer)) (sym (c .enum-told .given .1)) ∙ ap openingNumber (opens .ensures .replied);
+      left = opens .ensures .left;
+    })
     (λ c. search needs)
     -- refused
     (λ c. let opens = c .before .before .before .before .before .before .«open» in
     record {
-      reply = _;
-      replied = c .refusal-number .ensures ∙ ap (λ answer. openingNumber (openingOf answer)) (sym (c .before .before .refusal .given .1));
-      opens = opens .ensures;
+      replied =
+          c .refusal-number .ensures ∙ ap (λ answer. openingNumber (openingIs answer)) (sym (c .before .before .refusal .given .1))
+          ∙ ap openingNumber (opens .ensures .replied);
+      left = opens .ensures .left;
     }))

@@ -2,9 +2,8 @@
 use Prim.Native.Nat.{_+_}
 use mathlib.Core.Path.{sym, ap, _∙_}
 use borrow.Author.Needs.{needs}
-use Rattle.rules.specs.Replies.{replyNumbers}
-use Rattle.replies.specs.Meaning.{replyOf}
-use Rattle.gateway.specs.Packed.{packed}
+use Rattle.replies.specs.Meaning.{replyIs}
+use Rattle.gateway.specs.Packed.{packed, replyNumber}
 use Rattle.gateway.proofs.zidlemowo_step.Statement.{statement}
 use Rattle.gateway.proofs.zidlemowo_step.Tie as tie
 
@@ -13,11 +12,11 @@ unfolding packed
 returns-2 c =
     let steps = c .before .before .before .before .before .before .before .step in
     record {
-      reply = _;
       replied =
           c .pack .ensures ∙ ap (λ k. 17179869184 + k) (c .before .refusal-number .ensures)
-          ∙ ap (λ answer. packed (replyNumbers (replyOf answer))) (sym (c .before .before .before .refusal .given .1));
-      steps = steps .ensures;
+          ∙ ap (λ answer. replyNumber (replyIs answer)) (sym (c .before .before .before .refusal .given .1))
+          ∙ ap replyNumber (steps .ensures .replied);
+      left = steps .ensures .left;
     }
 
 pub zidlemowo-step-spec : {M : Type 1} → statement M
@@ -34,9 +33,10 @@ zidlemowo-step-spec =
     -- reported
     (λ c. let steps = c .before .before .before .before .before .before .step in
     record {
-      reply = _;
-      replied = c .pack-outcome .ensures ∙ ap (λ answer. packed (replyNumbers (replyOf answer))) (sym (c .before .before .report .given .1));
-      steps = steps .ensures;
+      replied =
+          c .pack-outcome .ensures ∙ ap (λ answer. replyNumber (replyIs answer)) (sym (c .before .before .report .given .1))
+          ∙ ap replyNumber (steps .ensures .replied);
+      left = steps .ensures .left;
     })
     (λ c. search needs)
     -- refused

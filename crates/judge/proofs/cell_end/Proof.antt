@@ -26,4 +26,4 @@ cell-end-spec =
     (λ c κs. let kept = ledger (c .before .before .before) in omega (arith, kept .long, kept .range .cells, kept .few))
     (λ c κs. let kept = ledger (c .before .before .before .before) in omega (arith, kept .long, kept .range .cells, kept .few))
     (λ c. let kept = ledger (c .before .before .before .before .before) in
-    end-shown kept (omega arith) (c .before .present-value .ensures _ (omega arith)) (c .versions-of .ensures _ (omega arith))))
+    end-shown kept (omega arith) (c .present-value .ensures _ (omega arith)) (c .before .present-version .ensures .0 _ (omega arith) .1)))

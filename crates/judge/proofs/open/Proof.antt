@@ -5,10 +5,11 @@ use native.Mathlib.Omega.{arith}
 use lib.ListN.{length-set}
 use borrow.Author.Needs.{needs}
 use borrow.Author.Tests.{not-true, not-false}
-use Rattle.rules.specs.Replies.{outOfRange, tooShort}
-use Rattle.rules.specs.Checks.{inRange}
-use Rattle.rules.proofs.Tables.{both-ways}
-use Rattle.rules.proofs.Given.{range-tested}
+use Rattle.rules.specs.steps.Given.{wrongCounts, wrongLength}
+use Rattle.rules.specs.steps.Replies.{outOfRange, tooShort}
+use Rattle.rules.specs.steps.Checks.{inRange}
+use Rattle.rules.proofs.steps.Tables.{both-ways}
+use Rattle.rules.proofs.steps.Given.{range-tested}
 use Rattle.judge.proofs.Opening.{ledger-stops, ledger-opens}
 use Rattle.judge.proofs.open.Statement.{statement}
 use Rattle.judge.proofs.open.Tie as tie
@@ -23,9 +24,10 @@ open-spec =
     (tie.spec
     (λ c κs. search needs)
     -- 20
-    (λ c. ledger-stops _ _ _ outOfRange (λ inside. both-ways (range-tested _ _ .1 inside) (sym (c .before .in-range .ensures) ∙ not-true _ (c .if1 .taken))))
+    (λ c. let out = sym (c .before .in-range .ensures) ∙ not-true _ (c .if1 .taken) in
+    ledger-stops _ _ _ outOfRange (wrongCounts (λ inside. both-ways (range-tested _ _ .1 inside) out)))
     -- 21
-    (λ c. ledger-stops _ _ _ tooShort (range-tested _ _ .0 (ranged (c .before)), omega arith))
+    (λ c. ledger-stops _ _ _ tooShort (wrongLength (range-tested _ _ .0 (ranged (c .before))) (omega arith)))
     -- cleared, with m and n in front
     (λ c κs. search needs)
     (λ c. search needs)

@@ -4,7 +4,7 @@ use mathlib.Core.Option.{none}
 use native.Mathlib.Omega.{arith}
 use borrow.Author.Needs.{needs}
 use borrow.Author.Tests.{not-true, not-false}
-use Rattle.steps.specs.Meaning.{verdictIs}
+use Rattle.checks.specs.Meaning.{verdictIs}
 use Rattle.ledger.specs.Entries.{Ledger}
 use Rattle.ledger.proofs.Tested.{tested}
 use Rattle.judge.proofs.Stepping.{step-malformed, says, asked-plainly, step-stops, step-ready, step-passes}

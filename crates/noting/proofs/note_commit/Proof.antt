@@ -9,8 +9,9 @@ use Rattle.noting.proofs.note_commit.Tie as tie
 
 returns : tie.Need-returns
 returns c =
-    let copied = c .before .before .before .before .before .before .copy-row in
-    commit-stored _ _ (c .before .before .empty-row .ensures) (copied .ensures)
+    let emptied = c .before .before in
+    let copied = emptied .before .before .before .before in
+    commit-stored _ _ (emptied .before .handler-row .ensures) (emptied .empty-row .ensures) (copied .before .copy-row .ensures)
 
 -- There are as many words after the row is copied.
 copied-length : (c : tie.After-copy-row) → length (c .copy-row .last .0) ≡ length (c .before .before .before .before .args .words .now)
@@ -26,12 +27,13 @@ note-commit-spec =
     (λ c. search needs)
     (λ c. search needs)
     (λ c κs. let pre = c .before .before .before .pre in omega (arith, pre .0 .long, pre .0 .range .handlers, pre .1))
+    (λ c κs. let pre = c .before .before .before .before .before .before .before .pre in omega (arith, pre .0 .range .handlers, pre .1))
+    (λ c κs. let copied = c .before .before .before .before in
+    let pre = copied .before .before .before .before .pre in
+    omega (arith, pre .0 .long, pre .0 .range .handlers, pre .1, copied-length copied))
     (λ c. search needs)
-    (λ c κs. let pre = c .before .before .before .before .before .before .before .pre in
-    omega (arith, pre .0 .long, pre .0 .range .handlers, pre .1, copied-length (c .before .before .before)))
     (λ c. search needs)
-    (λ c. search needs)
-    (λ c. let copied = c .before .before .before .before .before .before in
+    (λ c. let copied = c .before .before .before .before .before .before .before in
     let pre = copied .before .before .before .before .pre in
     length-set (c .before .before .empty-row .last .0) 2 _
     ∙ with-length _ _ _ (c .before .before .empty-row .ensures) (omega (arith, pre .0 .long, pre .0 .range .handlers, pre .1, copied-length copied))

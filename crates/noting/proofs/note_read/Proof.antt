@@ -2,7 +2,7 @@
 use native.Mathlib.Omega.{arith}
 use borrow.Author.Needs.{needs}
 use lib.ListN.{length-set}
-use Rattle.noting.proofs.Stores.{read-stored}
+use Rattle.noting.proofs.Placed.{read-at}
 use Rattle.noting.proofs.note_read.Statement.{statement}
 use Rattle.noting.proofs.note_read.Tie as tie
 
@@ -10,19 +10,16 @@ pub note-read-spec : {M : Type 1} → statement M
 note-read-spec =
     tie.close
     (tie.spec
+    (λ c κs. search needs)
+    (λ c κs. search needs)
     -- the source
     (λ c. omega arith)
     (λ c. omega arith)
     (λ c. omega arith)
     (λ c. omega arith)
-    (λ c. omega arith)
-    (λ c. omega arith)
-    (λ c. search needs)
     -- the value
-    (λ c. omega arith)
-    (λ c. omega arith)
-    (λ c. omega arith)
     (λ c. omega arith)
     (λ c. simp length-set (omega arith))
     (λ c. search needs)
-    (λ c. read-stored _ _ (omega (arith, c .pre)) _ _ _ (omega (arith, c .pre)) (omega (arith, c .pre))))
+    (λ c. let pre = c .before .before .before .pre in
+    read-at _ _ (omega (arith, pre)) _ (omega (arith, pre)) (omega (arith, pre)) _ _ (c .before .source-at .ensures) (c .copy-at .ensures)))

@@ -16,6 +16,8 @@ use Rattle.past.proofs.past_of_version.Reads as version
 use Rattle.past.proofs.past_of_version.Kinds as version-kinds
 use Rattle.past.proofs.+past_of_transaction+past_of_version.Lts-past_of_version as version-lts
 use Rattle.past.proofs.is_marked.Reads as is-marked
+use Rattle.places.proofs.commit_row.Reads as commit-row
+use Rattle.past.proofs.handler_of.Reads as handler-of
 use Rattle.past.proofs.last_own.Reads as last-own
 use Rattle.past.proofs.mark.Reads as mark
 use Rattle.past.proofs.source_of.Reads as source-of
@@ -82,7 +84,18 @@ unfolding entryIn
     (λ c. let start = c .before .before .before .before .before in
     let all : c .before .loop .c ≡ start .args .m = omega arith in
     rw all at (c .before .loop .inv .1)))
-    (λ t. version-lts.spec (is-marked.Asked, is-marked.Learnt, transaction-below t, transaction.Post, mark.Asked, mark.Learnt)
+    (λ t. version-lts.spec (
+      is-marked.Asked,
+      is-marked.Learnt,
+      commit-row.Asked,
+      commit-row.Learnt,
+      handler-of.Asked,
+      handler-of.Learnt,
+      transaction-below t,
+      transaction.Post,
+      mark.Asked,
+      mark.Learnt,
+    )
     (version-at t)
     version.Post
     -- the opening
@@ -91,13 +104,13 @@ unfolding entryIn
     (λ c κs. omega arith)
     (λ c. adds-again _ _ _ _ (c .before .before .before .before .pre .1 .1) (sym (c .before .is-marked .ensures) ∙ c .if2 .taken))
     -- its row and its handler
-    (λ c. omega arith)
-    (λ c. omega arith)
-    (λ c. omega arith)
-    (λ c. omega arith)
+    (λ c κs. omega arith)
+    (λ c κs. omega arith)
     -- its transaction is asked
     (λ c. omega arith)
-    (λ c κs. (omega arith, (omega arith, c .before .before .before .before .before .pre .1 .1)))
+    (λ c κs. (omega arith, (omega arith, c .before .before .before .before .before .before .pre .1 .1)))
     -- it is marked
     (λ c κs. omega arith)
-    (λ c. adds-version _ _ _ (omega arith) (c .before .past-of-transaction .ensures) (c .mark .ensures)))
+    (λ c. let asked = c .before in
+    let handler = asked .before in
+    adds-version _ _ _ (omega arith) (handler .handler-of .ensures) (handler .before .commit-row .ensures) (asked .past-of-transaction .ensures) (c .mark .ensures)))

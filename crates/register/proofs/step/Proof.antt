@@ -1,67 +1,57 @@
--- `register::step` meets its promise: what the checks refuse is refused, and what they let through is taken and reported.
-use Prim.Native.Nat.{_≤_}
-use mathlib.Core.Path.{_≡_, sym, ap, _∙_}
-use mathlib.Core.Option.{none}
+-- `register::step` meets its promise: 10 for words that are no register, and else what their body promises.
+use mathlib.Core.Path.{_≡_, sym, ap, _∙_, subst}
+use mathlib.Core.Bool.{true}
 use native.Mathlib.Omega.{arith}
-use lib.ListN.{length}
 use borrow.Author.Needs.{needs}
-use Rattle.rules.specs.Codes.{Step, known, kindOf}
-use Rattle.rules.specs.Checks.{firstHit, stepChecks}
-use Rattle.layout.specs.Places.{cellsOf}
-use Rattle.promises.specs.Stepping.{askedOf}
-use Rattle.turns.specs.Takes.{Ready}
-use Rattle.steps.specs.Meaning.{verdictIs}
-use Rattle.register.specs.Meaning.{askedBy}
-use Rattle.register.proofs.Stepping.{step-stops, step-ready, step-takes}
+use borrow.Author.Tests.{not-true, not-false}
+use Rattle.rules.specs.steps.Codes.{plainSheet}
+use Rattle.layout.specs.Places.{cellsOf, handlersOf}
+use Rattle.layout.specs.WellFormed.{isWellFormed, WellFormed}
+use Rattle.layout.proofs.Tested.{tested}
+use Rattle.layout.proofs.Kept.{well-long}
+use Rattle.layout.proofs.Fronts.{behind-is, register-back}
+use Rattle.promises.specs.Bodies.{BodyPromise}
+use Rattle.replies.specs.Meaning.{replyIs}
+use Rattle.register.proofs.Stepping.{stands, malformed-stops, body-steps}
 use Rattle.register.proofs.step.Statement.{statement}
 use Rattle.register.proofs.step.Tie as tie
 
--- The verdict is what the checks say of the code.
-said : (c : tie.After-refusal-of) → let args = c .before .before .before .before .args in
-    verdictIs (c .refusal-of .result) ≡ firstHit (stepChecks (askedOf (args .words .now) (args .handler) (args .code)))
-said c =
-    let args = c .before .before .before .before .args in
-    c .refusal-of .ensures
-    ∙ ap (λ kind. firstHit (stepChecks (askedBy (args .words .now) (args .handler) kind))) (c .before .before .kind-of .ensures)
+-- Past the first check the test has found the words well formed,
+passed : (c : tie.Else1) → isWellFormed (c .before .before .before .before .args .words .now) ≡ true
+passed c = sym (c .before .well-formed .ensures) ∙ not-false _ (c .if1 .left)
 
--- The checks let the step through.
-passes : (c : tie.After-enum-told) → let args = c .before .before .before .before .before .before .args in
-    firstHit (stepChecks (askedOf (args .words .now) (args .handler) (args .code))) ≡ none
-passes c = sym (said (c .before .before)) ∙ ap verdictIs (c .enum-told .given .1)
-
--- So the step is ready to be taken.
-ready : (c : tie.After-enum-told) → let args = c .before .before .before .before .before .before .args in
-    (s : Step) × (kindOf (args .code) ≡ known s) × Ready (args .words .now) (cellsOf (args .words .now)) (args .handler) s
-ready c =
-    let args = c .before .before .before .before .before .before .args in
-    step-ready (args .words .now) (args .handler) (args .code) (args .value) (passes c)
-
--- The words are as many as a register has, and its cells few.
-formed : (c : tie.After-enum-told) → let words = c .before .before .before .before .before .before .args .words .now in
-    (2 ≤ length words) × (cellsOf words ≤ 32)
-formed c = let seated = ready c .2 .seated .formed in omega (arith, seated .fits, seated .few)
+-- and so they are.
+formed : (c : tie.Else1) → WellFormed (c .before .before .before .before .args .words .now)
+formed c = tested _ .0 (passed c)
 
 pub step-spec : {M : Type 1} → statement M
 step-spec =
     tie.close
     (tie.spec
     (λ c κs. search needs)
+    (λ c. search needs)
+    -- 10
+    (λ c. malformed-stops _ _ _ _ (sym (c .before .well-formed .ensures) ∙ not-true _ (c .if1 .taken)))
+    -- m and n
+    (λ c. omega (arith, well-long (formed (c .before))))
+    (λ c. omega (arith, formed (c .before) .range .cells))
+    (λ c. omega (arith, well-long (formed (c .before .before))))
+    (λ c. omega (arith, formed (c .before .before) .range .handlers))
+    -- the body is lent
     (λ c κs. search needs)
+    (λ c. omega (arith, well-long (formed (c .before .before .before))))
+    (λ c. omega (arith, well-long (formed (c .before .before .before))))
     (λ c. search needs)
+    (λ c κs. let kind = c .before in
+    let tested = kind .before .before .before in
+    rw (behind-is 2 (tested .before .before .before .before .args .words .now)) (stands (formed tested)))
     (λ c. search needs)
-    (λ c. omega (arith, formed (c .before)))
-    (λ c. omega (arith, formed (c .before)))
-    (λ c κs. let (s, e, able) = ready (c .before .before) in
-    (s, c .before .before .before .before .before .before .kind-of .ensures ∙ e, able))
-    (λ c. search needs)
-    -- refused
-    (λ c. let at = c .before .before .before in
-    let args = at .before .before .before .before .args in
-    step-stops (args .words .now) (args .handler) (args .code) (args .value) _ (sym (said at) ∙ ap verdictIs (c .before .verdict .given .1)))
-    (λ c. search needs)
-    -- taken
-    (λ c. let told = c .before .before .before .before .before in
-    let kind = told .before .before .before .before in
-    let args = kind .before .before .args in
-    step-takes (args .words .now) (args .handler) (args .code) (args .value) (passes told)
-    (λ s e. c .before .before .take .ensures s (kind .kind-of .ensures ∙ e))))
+    (λ c. let kind = c .before .before .before .before in
+    let tested = kind .before .before .before in
+    let args = tested .before .before .before .before .args in
+    let words = args .words .now in
+    let left = c .before .before .turn .last .0 in
+    rw (register-back words (omega (arith, well-long (formed tested))) left)
+    (body-steps words (args .handler) (args .code) (args .value) (passed tested)
+    (subst (λ body. BodyPromise plainSheet (cellsOf words) (handlersOf words) body (args .handler) (args .code) (args .value) (replyIs (c .before .before .turn .result)) left)
+    (behind-is 2 words) (c .before .before .turn .ensures plainSheet (sym (kind .kind-of .ensures)))))))

@@ -2,7 +2,7 @@
 use Prim.Native.Nat.{_≤_, _-_}
 use mathlib.Core.Path.{refl}
 use native.Mathlib.Omega.{arith}
-use Rattle.rules.specs.Register.{zeros}
+use Rattle.rules.specs.steps.Register.{zeros}
 use Rattle.words.specs.Rows.{Changed}
 use Rattle.words.proofs.Changes.{changed-none, changed-more, changed-all}
 use Rattle.words.proofs.clear.Statement.{statement}

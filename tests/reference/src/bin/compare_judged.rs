@@ -3,10 +3,10 @@
 //! Arguments: the paths of runner, judge and examples, a seed, how many sound files, how many damaged ones.
 use reference::counts::Counts;
 use reference::directed::{self, Directed};
-use reference::judge::{self, History, MOST};
+use reference::judge::{self, Judged, MOST};
 use reference::random::Random;
 use reference::register::Reply;
-use reference::schedule::{self, Run};
+use reference::schedule;
 use reference::{generate, histories, program};
 use std::ffi::OsStr;
 use std::path::Path;
@@ -42,9 +42,6 @@ const KINDS: [&str; 22] = [
 /// The aborts 1 by how many links led from the version's commit to the one that overtook a read. Each has to be met too.
 const LINKS: [&str; 4] =
     ["abort 1 through 0 links", "abort 1 through 1 link", "abort 1 through 2 links", "abort 1 through 3 links or more"];
-
-/// What this crate's judge makes of a file: the run and the history, or the refusal.
-type Judged = Result<(Run, History), u32>;
 
 /// The two programs, and what was met.
 struct Comparison {
@@ -151,15 +148,18 @@ impl Comparison {
     }
 }
 
+/// Says why the comparison ends, and ends it.
 fn fail(what: &str) -> ! {
     println!("compare-judged: {what}");
     exit(1);
 }
 
+/// The bytes of a file that has to be there.
 fn content(path: &Path) -> Vec<u8> {
     std::fs::read(path).unwrap_or_else(|error| fail(&format!("{}: {error}", path.display())))
 }
 
+/// All files, what was met, whether each kind was among it, and how long the largest pasts take.
 fn main() {
     let arguments: Vec<String> = std::env::args().skip(1).collect();
     let numbers: Vec<u64> = arguments.iter().skip(3).filter_map(|word| word.parse().ok()).collect();

@@ -2,13 +2,14 @@
 //! Arguments: the runner's path, a seed, how many sound files, how many damaged ones.
 use reference::counts::Counts;
 use reference::random::Random;
-use reference::{generate, program, schedule};
+use reference::{generate, lines, program, runner};
 use std::process::exit;
 
+/// The files at borders, the sound ones and the damaged ones, one after another; then one line that counts the replies.
 fn main() {
     let arguments: Vec<String> = std::env::args().skip(1).collect();
     let numbers: Vec<u64> = arguments.iter().skip(1).filter_map(|word| word.parse().ok()).collect();
-    let (Some(runner), &[seed, sound, damaged]) = (arguments.first(), &numbers[..]) else {
+    let (Some(proved), &[seed, sound, damaged]) = (arguments.first(), &numbers[..]) else {
         eprintln!("compare-runs: the runner's path, a seed, how many sound files, how many damaged ones");
         exit(2);
     };
@@ -22,10 +23,11 @@ fn main() {
             None if place < fixed + sound => ("sound", generate::sound(&mut random)),
             None => ("damaged", generate::damaged(&mut random)),
         };
-        let run = schedule::run(&file);
+        let run = runner::run(&file);
         counts.answers(run.as_ref());
-        let proved = program::printed_by(runner, &file, program::piece(&mut random, &file));
-        program::demand(&format!("seed {seed}, file {place} ({kind})"), &file, &proved, "reference", &schedule::shown(&run));
+        let printed = program::printed_by(proved, &file, program::piece(&mut random, &file));
+        let what = format!("seed {seed}, file {place} ({kind})");
+        program::demand(&what, &file, &printed, "reference", &lines::shown(run.as_ref()));
     }
     let counts = counts.shown();
     println!("seed {seed}: {fixed} files at borders, {sound} sound and {damaged} damaged ones, no difference; {counts}");

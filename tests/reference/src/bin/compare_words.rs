@@ -3,6 +3,8 @@
 use reference::proved;
 use reference::random::Random;
 use reference::register;
+use std::fmt::Arguments;
+use std::process::exit;
 
 /// A number of a cell, a handler or a transaction, often near 0 or 65,535.
 fn number(random: &mut Random) -> u32 {
@@ -14,6 +16,7 @@ fn number(random: &mut Random) -> u32 {
     }
 }
 
+/// A set of cells: none, all, few or any.
 fn set(random: &mut Random, m: u32) -> u32 {
     let all = if m == 32 { u32::MAX } else { (1 << m) - 1 };
     match random.below(4) {
@@ -43,9 +46,9 @@ fn well_formed(random: &mut Random) -> Vec<u32> {
     // Where a transaction is to have a chance to commit, its numbers are the cells' own.
     if random.once_in(2) {
         let (m, long) = (m as usize, 3 + 3 * m as usize);
-        for i in 0..n as usize {
-            for c in 0..m {
-                words[2 + m * (m + 1) + i * long + 3 + m + c] = words[2 + c * (m + 1) + 1 + c];
+        for handler in 0..n as usize {
+            for cell in 0..m {
+                words[2 + m * (m + 1) + handler * long + 3 + m + cell] = words[2 + cell * (m + 1) + 1 + cell];
             }
         }
     }
@@ -58,18 +61,18 @@ fn malformed(random: &mut Random) -> Vec<u32> {
     let mut words = well_formed(random);
     let (m, n) = (words[0] as usize, words[1] as usize);
     let (first, long) = (2 + m * (m + 1), 3 + 3 * m);
-    let block = first + random.below(n as u64) as usize * long;
-    let big = [65_536, 1 << 31, u32::MAX][random.below(3) as usize];
+    let block = first + random.place(n) * long;
+    let big = random.one_of(&[65_536, 1 << 31, u32::MAX]);
     match random.below(9) {
-        0 => words[0] = [0, 33, u32::MAX][random.below(3) as usize],
-        1 => words[1] = [0, 17, u32::MAX][random.below(3) as usize],
-        2 => words.truncate(random.below((first + n * long) as u64) as usize),
-        3 => words[2 + random.below(m as u64) as usize * (m + 1) + 1 + random.below(m as u64) as usize] = big,
-        4 => words[block] = [2, u32::MAX][random.below(2) as usize],
+        0 => words[0] = random.one_of(&[0, 33, u32::MAX]),
+        1 => words[1] = random.one_of(&[0, 17, u32::MAX]),
+        2 => words.truncate(random.place(first + n * long)),
+        3 => words[2 + random.place(m) * (m + 1) + 1 + random.place(m)] = big,
+        4 => words[block] = random.one_of(&[2, u32::MAX]),
         5 if m < 32 => words[block + 1] |= 1 << random.within(m as u64, 31),
         6 if m < 32 => words[block + 2] |= 1 << random.within(m as u64, 31),
-        7 => words[block + 3 + random.below(m as u64) as usize] = big,
-        _ => words[block + 3 + m + random.below(m as u64) as usize] = big,
+        7 => words[block + 3 + random.place(m)] = big,
+        _ => words[block + 3 + m + random.place(m)] = big,
     }
     words
 }
@@ -82,15 +85,19 @@ fn code(random: &mut Random, m: u32) -> u32 {
         1..=3 => 1,
         4..=6 => 32 + random.below(m) as u32,
         7..=8 => 64 + random.below(m) as u32,
-        9 => random.below(256) as u32,
+        9 => random.byte().into(),
         10 => 32 + random.below(64) as u32,
-        _ => [2, 31, 96, 255, 256, u32::MAX][random.below(6) as usize],
+        _ => random.one_of(&[2, 31, 96, 255, 256, u32::MAX]),
     }
 }
 
-fn show(what: &str, before: &[u32], call: &str, ours: u64, theirs: u64, after: &[u32], expected: &[u32]) -> ! {
-    eprintln!("{what}: {call}\nbefore   {before:x?}\nproved   {ours:x} {after:x?}\nreference {theirs:x} {expected:x?}");
-    std::process::exit(1);
+/// Where the two sides differ, in the reply or in a word left behind, both are shown and the comparison ends.
+fn demand(call: Arguments, before: &[u32], proved: (u64, &[u32]), reference: (u64, &[u32])) {
+    if proved != reference {
+        eprintln!("{call}\nbefore    {before:x?}\nproved    {:x} {:x?}", proved.0, proved.1);
+        eprintln!("reference {:x} {:x?}", reference.0, reference.1);
+        exit(1);
+    }
 }
 
 /// Some steps on the same words by both, each reply and all words compared.
@@ -106,10 +113,9 @@ fn steps(random: &mut Random, words: &[u32], count: u64) -> u64 {
         };
         let (code, value) = (code(random, before.first().copied().unwrap_or(1)), random.word());
         let reply = proved::step(&mut ours, handler, code, value);
-        let expected = proved::packed(register::step(&mut theirs, handler, code, value));
-        if reply != expected || ours != theirs {
-            show("step", &before, &format!("handler {handler} code {code} value {value}"), reply, expected, &ours, &theirs);
-        }
+        let expected = register::step(&mut theirs, handler, code, value).packed();
+        let call = format_args!("step: handler {handler} code {code} value {value}");
+        demand(call, &before, (reply, &ours), (expected, &theirs));
     }
     count
 }
@@ -121,17 +127,16 @@ fn opening(random: &mut Random) {
     assert_eq!(proved::length(m, n) as usize, need.unwrap_or(0), "length of {m} {n}");
     let long = match need {
         Some(need) if !random.once_in(4) => need + random.below(4) as usize,
-        _ => random.below(2700) as usize,
+        _ => random.place(2700),
     };
     let before: Vec<u32> = (0..long).map(|_| random.word()).collect();
     let (mut ours, mut theirs) = (before.clone(), before.clone());
     let reply = proved::open(&mut ours, m, n);
     let expected = register::open(&mut theirs, m, n).err().unwrap_or(0);
-    if reply != expected || ours != theirs {
-        show("open", &before, &format!("m {m} n {n}"), reply.into(), expected.into(), &ours, &theirs);
-    }
+    demand(format_args!("open: m {m} n {n}"), &before, (reply.into(), &ours), (expected.into(), &theirs));
 }
 
+/// The steps on well-formed and on malformed registers, and the openings; then one line that counts them.
 fn main() {
     let arguments: Vec<u64> = std::env::args().skip(1).map(|word| word.parse().expect("a number")).collect();
     let [seed, good, bad] = arguments[..] else { panic!("seed, well-formed registers, malformed ones") };

@@ -1,6 +1,8 @@
 //! The runner of document 01 in plain Rust: a schedule file on standard input, its lines on standard output.
-use reference::{program, schedule};
+//! It is measured beside the proved runner.
+use reference::{program, runner};
 
+/// The whole program.
 fn main() {
-    program::run("reference-runner", schedule::printed);
+    program::run("reference-runner", runner::printed);
 }

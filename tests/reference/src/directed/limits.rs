@@ -1,14 +1,15 @@
-//! Schedules for the judge with 64 commits, with 65 and with more, and what may stand between the 64th and the 65th.
+//! Schedules for the judge with 64 commits, with 65 and with more: of one handler, of several in turn, of all side by side, and of
+//! transactions that read and write nothing; and what may stand between the 64th and the 65th.
 use super::{directed, Directed};
 use crate::course::Course;
-use crate::generate::{read, write_value, BEGIN, TRY};
 use crate::judge::MOST;
+use crate::steps::{read, write, BEGIN, TRY};
 
 /// One handler alone, which reads its cell and writes it.
 fn alone(commits: usize) -> Course {
     let mut course = Course::new(1, 1);
     for place in 0..commits {
-        course.transaction(0, &[read(0), write_value(0, place as u32)]);
+        course.transaction(0, &[read(0), write(0, place as u32)]);
     }
     course
 }
@@ -26,7 +27,7 @@ fn nothing(handlers: usize, commits: usize) -> Course {
 fn mixed(commits: usize) -> Course {
     let mut course = Course::new(3, 5);
     for place in 0..commits {
-        let (read, write) = (read((place % 3) as u8), write_value((place / 2 % 3) as u8, place as u32));
+        let (read, write) = (read((place % 3) as u8), write((place / 2 % 3) as u8, place as u32));
         let kinds = [&[][..], &[read], &[write], &[read, write]];
         course.transaction(place % 5, kinds[place % 4]);
     }
@@ -38,7 +39,7 @@ fn side_by_side(rounds: usize) -> Course {
     let mut course = Course::new(16, 16);
     for round in 0..rounds {
         for handler in 0..16 {
-            course.take_all(handler, [BEGIN, read(handler as u8), write_value(handler as u8, round as u32)]);
+            course.take_all(handler, [BEGIN, read(handler as u8), write(handler as u8, round as u32)]);
         }
         for handler in 0..16 {
             course.take(handler, TRY);
@@ -52,7 +53,7 @@ fn at_the_limit(then: &str) -> Course {
     let mut course = Course::new(3, 5);
     course.follow("0:begin,read0 1:begin,read0,write1=3 2:begin,read1");
     for place in 0..MOST {
-        course.transaction(3, &[write_value(0, place as u32)]);
+        course.transaction(3, &[write(0, place as u32)]);
     }
     course.follow("0:try 1:read0,write2=5,try 9:none 4:none 0:read1,begin,begin,read5,read0,write1=4 3:none");
     course.follow(then);

@@ -1,8 +1,9 @@
-//! Schedules for the judge with large and deep pasts, and with each cell and each handler in turn.
+//! Schedules for the judge with large and deep pasts, and with each cell and each handler in turn. A random schedule hardly
+//! gets so far.
 use super::{directed, Directed};
 use crate::course::Course;
-use crate::generate::{read, write_value, BEGIN};
 use crate::judge::MOST;
+use crate::steps::{read, write, BEGIN};
 
 /// 64 commits of so many handlers, each of all 32 cells read and then written. Before them the 16th handler does what the text
 /// says.
@@ -11,7 +12,7 @@ fn largest(writers: usize, before: &str) -> Course {
     course.follow(before);
     for place in 0..MOST {
         let reads = (0..32).map(read);
-        let writes = (0..32).map(|cell| write_value(cell, 32 * place as u32 + u32::from(cell)));
+        let writes = (0..32).map(|cell| write(cell, 32 * place as u32 + u32::from(cell)));
         course.transaction(place % writers, &reads.chain(writes).collect::<Vec<_>>());
     }
     course
@@ -34,7 +35,7 @@ fn long_chain() -> Course {
     course.follow("0:begin,read0 1:begin,write0=1,try");
     let cell = |place: usize| if place == 0 { 0 } else { 1 + ((place - 1) % 31) as u8 };
     for place in 1..MOST {
-        course.transaction(1 + place % 15, &[read(cell(place - 1)), write_value(cell(place), place as u32)]);
+        course.transaction(1 + place % 15, &[read(cell(place - 1)), write(cell(place), place as u32)]);
     }
     course.take(0, read(cell(MOST - 1)));
     course
@@ -47,7 +48,7 @@ fn deep(two: bool, late: bool, astray: usize) -> Course {
     course.follow(if late { "1:begin,write0=1,try 0:begin,read0" } else { "0:begin,read0 1:begin,write0=1,try" });
     for handler in 2..16 {
         let from = read(if handler == astray { 15 } else { handler as u8 - 2 });
-        let to = write_value(handler as u8 - 1, handler as u32);
+        let to = write(handler as u8 - 1, handler as u32);
         if two {
             course.transaction(handler, &[from]);
             course.transaction(handler, &[to]);
@@ -76,7 +77,7 @@ fn each_cell() -> Course {
     for cell in 0..32 {
         let next = (cell + 1) % 32;
         course.take_all(0, [BEGIN, read(cell)]);
-        course.transaction(1, &[write_value(cell, 5), write_value(next, 7)]);
+        course.transaction(1, &[write(cell, 5), write(next, 7)]);
         course.take(0, read(next));
     }
     course
@@ -87,8 +88,8 @@ fn each_handler() -> Course {
     let mut course = Course::new(2, 16);
     for handler in 1..16 {
         course.take_all(0, [BEGIN, read(0)]);
-        course.transaction(handler, &[write_value(0, 5)]);
-        course.transaction(handler, &[write_value(1, 7)]);
+        course.transaction(handler, &[write(0, 5)]);
+        course.transaction(handler, &[write(1, 7)]);
         course.take(0, read(1));
     }
     course

@@ -1,4 +1,5 @@
-//! Short schedules for the judge, as texts: each asks one question of a past, or of what a transaction read.
+//! Short schedules for the judge, as texts: each asks one question of a past, or of what a transaction read. For many there is a
+//! neighbour of nearly the same steps that is answered the other way.
 
 /// Short schedules: what they show, their steps, and what the last one comes to. All have 4 handlers and 4 cells.
 pub(super) const SHORT: [(&str, &str, &str); 34] = [

@@ -2,7 +2,7 @@
 use Prim.Native.Nat.{ℕ, _-_, _≤_}
 use mathlib.Core.List.{List}
 use native.Mathlib.Omega.{arith}
-use Rattle.rules.proofs.Searches.{NoneBelow, search-goes, search-hits, search-misses}
+use Rattle.rules.proofs.steps.Searches.{NoneBelow, search-goes, search-hits, search-misses}
 use Rattle.block.proofs.Searches.{filled, spent-asks}
 use Rattle.block.proofs.checks.spent.Statement.{statement}
 use Rattle.block.proofs.checks.spent.Tie as tie

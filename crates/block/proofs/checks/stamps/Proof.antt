@@ -4,7 +4,7 @@ use mathlib.Core.Path.{_≡_, refl, _∙_}
 use mathlib.Core.List.{List}
 use native.Mathlib.Omega.{arith}
 use lib.ListN.{replicate}
-use Rattle.rules.specs.Tables.{if_then_else_}
+use Rattle.rules.specs.steps.Tables.{if_then_else_}
 use Rattle.layout.specs.Bits.{hasBit}
 use Rattle.layout.specs.Places.{writtenSetIn, transactionNumberIn}
 use Rattle.layout.specs.View.{viewHandler}
@@ -37,7 +37,7 @@ stamps-spec =
     μ-loop
     -- the set and the place
     (λ c. omega arith)
-    (λ c. omega arith)
+    (λ c κs. omega arith)
     -- before the first turn
     (λ c. (omega arith, changed-none _ _ _ (omega arith)))
     -- the indices
@@ -46,14 +46,15 @@ stamps-spec =
     (λ c. omega arith)
     (λ c. omega arith)
     (λ c. omega arith)
-    (λ c κs. (omega arith, c .before .before .before .before .before .before .pre .1 _ (omega arith)))
+    (λ c κs. (omega arith, c .before .before .before .before .before .before .before .pre .1 _ (omega arith)))
     (λ c. omega arith)
     (λ c. omega arith)
     -- one more turn
     (λ c. omega arith)
     (λ c. omega arith)
     (λ c. let loop = c .before .before .before .before in
-    let own = loop .before .before .before .args .own .now in
-    (omega arith, changed-first _ _ _ _ _ (loop .loop .inv .1) (omega arith) (c .stamp .ensures ∙ stamped _ _ own _ (omega arith))))
+    let placed = loop .before .transaction-numbers .ensures in
+    let own = loop .before .before .before .before .args .own .now in
+    (omega arith, changed-first _ _ _ _ _ (loop .loop .inv .1) (omega arith) ((rw placed at (c .stamp .ensures)) ∙ stamped _ _ own _ (omega arith))))
     -- at the end
     (λ c. changed-row (changed-all _ _ _ (c .before .loop .inv .1) (omega arith) (omega arith))))

@@ -3,17 +3,18 @@ use mathlib.Core.Path.{_∙_}
 use native.Mathlib.Omega.{arith}
 use lib.ListN.{length-set}
 use borrow.Author.Needs.{needs}
+use Rattle.words.proofs.Changes.{changed-at}
 use Rattle.block.proofs.Headed.{headed, begins}
 use Rattle.block.proofs.ends.begin.Statement.{statement}
 use Rattle.block.proofs.ends.begin.Tie as tie
 
--- Where the function starts, seen from its end.
-abbrev start : tie.After-slice-known3 → tie.Start
-start c = c .before .before .before .before .before .before .before .before .before
-
 -- Where the numbers are copied, seen from the end.
 abbrev copied : tie.After-slice-known3 → tie.After-copy
 copied c = c .before .before .before .before .before .before
+
+-- Where the function starts, seen from its end.
+abbrev start : tie.After-slice-known3 → tie.Start
+start c = copied c .before .before .before .before .before
 
 pub begin-spec : {M : Type 1} → statement M
 begin-spec =
@@ -24,12 +25,14 @@ begin-spec =
     (λ c. simp length-set (omega arith))
     (λ c. simp length-set (omega arith))
     -- the two places
-    (λ c. search needs)
-    (λ c. search needs)
-    (λ c. search needs)
+    (λ c κs. search needs)
+    (λ c κs. search needs)
     -- the numbers are copied, and the copies cleared
     (λ c κs. simp length-set (omega arith))
     (λ c κs. omega (arith, simp length-set at (c .before .before .before .copy .ensures .untouched .size)))
     -- at the end
     (λ c. c .before .before .clear .ensures .untouched .size ∙ copied c .copy .ensures .untouched .size ∙ simp length-set)
-    (λ c. begins _ (headed _ 1 (start c .args .block .now) (start c .pre .size)) (copied c .copy .ensures) (c .before .before .clear .ensures)))
+    (λ c. let places = copied c .before .before in
+    begins _ (headed _ 1 (start c .args .block .now) (start c .pre .size))
+    (changed-at (places .before .transaction-numbers .ensures) (copied c .copy .ensures))
+    (changed-at (places .copies .ensures) (c .before .before .clear .ensures))))

@@ -2,13 +2,13 @@
 use Prim.Native.Nat.{_+_, _≤_, _-_}
 use native.Mathlib.Omega.{arith}
 use Rattle.words.specs.Rows.{Changed}
-use Rattle.words.proofs.Changes.{changed-none, changed-more, changed-all}
+use Rattle.words.proofs.Changes.{changed-none, changed-more, changed-all, changed-at}
 use Rattle.block.specs.Blocks.{raisedBy}
 use Rattle.block.proofs.read.raise.Statement.{statement}
 use Rattle.block.proofs.read.raise.Tie as tie
 
 abbrev Inv-loop : tie.InvT-loop
-Inv-loop block₀ m numbers read transaction y₀ block y = (y ≤ m) × Changed (3 + m) y (raisedBy m block₀ numbers) block₀ block
+Inv-loop block₀ m numbers read transaction y₀ block y = (y ≤ m) × Changed transaction y (raisedBy m block₀ numbers) block₀ block
 
 abbrev μ-loop : tie.MeasureT-loop
 μ-loop block₀ m numbers read transaction y₀ block y = m - y
@@ -18,8 +18,9 @@ unfolding raisedBy
 loop-again c =
     let loop = c .before .before .before .before in
     let changed = loop .loop .inv .1 in
-    let same = changed .untouched .above (3 + loop .before .before .before .args .m + loop .loop .y) (omega arith) in
-    (omega arith, changed-more _ _ _ _ _ _ changed (omega arith) (rw same at (c .raised .ensures)))
+    let placed = loop .before .transaction-numbers .ensures in
+    let same = changed .untouched .above (loop .before .transaction-numbers .result + loop .loop .y) (omega arith) in
+    (omega arith, changed-more _ _ _ _ _ _ changed (omega arith) (rw placed at (rw same at (c .raised .ensures))))
 
 pub raise-spec : {M : Type 1} → statement M
 raise-spec =
@@ -29,7 +30,7 @@ raise-spec =
     μ-loop
     -- the set and the place
     (λ c. omega arith)
-    (λ c. omega arith)
+    (λ c κs. omega arith)
     -- before the first turn
     (λ c. (omega arith, changed-none _ _ _ (omega arith)))
     -- the indices
@@ -48,4 +49,5 @@ raise-spec =
     loop-again
     -- at the end
     (λ c. c .before .loop .inv .1 .untouched .size)
-    (λ c. changed-all _ _ _ (c .before .loop .inv .1) (omega arith) (omega arith)))
+    (λ c. let placed = c .before .before .transaction-numbers in
+    changed-all _ _ _ (changed-at (placed .ensures) (c .before .loop .inv .1)) (omega arith) (omega arith)))

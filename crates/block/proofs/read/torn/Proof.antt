@@ -1,8 +1,10 @@
 -- `block::read::torn` meets its contract: no cell passed has a lower number.
 use Prim.Native.Nat.{ℕ, _-_, _≤_}
+use mathlib.Core.Path.{_≡_}
 use mathlib.Core.List.{List}
 use native.Mathlib.Omega.{arith}
-use Rattle.rules.proofs.Searches.{NoneBelow, search-goes, search-hits, search-misses}
+use Rattle.rules.proofs.steps.Searches.{NoneBelow, search-goes, search-hits, search-misses}
+use Rattle.layout.specs.Places.{transactionFrom}
 use Rattle.block.proofs.Searches.{lower, torn-asks}
 use Rattle.block.proofs.read.torn.Statement.{statement}
 use Rattle.block.proofs.read.torn.Tie as tie
@@ -15,7 +17,11 @@ abbrev μ-loop : tie.MeasureT-loop
 
 -- The row of numbers, seen from the loop.
 abbrev row : tie.At-loop Inv-loop μ-loop → List ℕ
-row c = c .before .before .before .args .numbers .now
+row c = c .before .before .before .before .args .numbers .now
+
+-- Where the transaction's numbers begin, seen from the loop.
+placed : (c : tie.At-loop Inv-loop μ-loop) → c .before .transaction-numbers .result ≡ transactionFrom (c .before .before .before .before .args .m)
+placed c = c .before .transaction-numbers .ensures
 
 pub torn-spec : {M : Type 1} → statement M
 torn-spec =
@@ -25,7 +31,7 @@ torn-spec =
     μ-loop
     -- the set and the place
     (λ c. omega arith)
-    (λ c. omega arith)
+    (λ c κs. omega arith)
     -- before the first turn
     (λ c. (omega arith, λ z h. absurd (omega arith)))
     -- the indices
@@ -38,11 +44,11 @@ torn-spec =
     (λ c κs. omega arith)
     -- it passes
     (λ c. let loop = c .before .before .before .before .before in
-    search-hits _ _ (torn-asks _ _ (row loop)) _ (omega arith) (c .before .below .ensures) (c .if1 .taken))
+    search-hits _ _ (torn-asks _ _ (row loop)) _ (omega arith) (rw (placed loop) at (c .before .below .ensures)) (c .if1 .taken))
     -- one more turn
     (λ c. omega arith)
     (λ c. omega arith)
-    (λ c. let none = c .before .before .before .before .before .loop .inv .1 in
-    (omega arith, search-goes none (c .before .below .ensures) (c .if1 .left)))
+    (λ c. let loop = c .before .before .before .before .before in
+    (omega arith, search-goes (loop .loop .inv .1) (rw (placed loop) at (c .before .below .ensures)) (c .if1 .left)))
     -- at the end
     (λ c. search-misses _ _ (torn-asks _ _ (row (c .before))) (c .before .loop .inv .1) (omega arith)))

@@ -11,8 +11,10 @@ is-open-spec =
     (tie.spec
     (λ c. search needs)
     (λ c. beyond-idle _ _ (omega arith))
+    (λ c κs. search needs)
+    (λ c κs. search needs)
     (λ c. search needs)
     (λ c. search needs)
-    (λ c. search needs)
-    (λ c. search needs)
-    (λ c. phase-told (c .before .before .before .pre) (omega arith)))
+    (λ c. let found = c .before in
+    let row = found .before in
+    phase-told (row .handler-row .ensures) (found .row-at .ensures) (row .before .before .before .before .pre) (omega arith)))

@@ -5,9 +5,9 @@ use mathlib.Core.Bool.{false, not}
 use mathlib.Core.List.{List}
 use native.Mathlib.Omega.{arith}
 use borrow.Author.Needs.{needs}
-use Rattle.rules.specs.Codes.{Step, begin, try, read, write, Kind, known}
-use Rattle.steps.specs.Meaning.{kindIs}
-use Rattle.steps.proofs.OneStep.{for-kind, no-step}
+use Rattle.rules.specs.steps.Codes.{Step, begin, try, read, write, Kind, known}
+use Rattle.checks.specs.Meaning.{kindIs}
+use Rattle.checks.proofs.OneStep.{for-kind, no-step}
 use Rattle.judge.proofs.Answers.{stale-told}
 use Rattle.judge.proofs.Tests.{tooMany, room-left, begin-passes, write-passes, read-passes, try-too-many}
 use Rattle.judge.proofs.reading.is_too_many.Statement.{statement}
@@ -26,8 +26,8 @@ is-too-many-spec =
     (λ c. search needs)
     (λ c s e. let start = c .before .before .before in room-left (start .args .words .now) (start .args .i) (omega arith) s)
     (λ c. search needs)
-    (λ c. search needs)
-    (λ c κs. let ready = c .before .before .before .before .before .pre .2 in (
+    (λ c κs. let ready = c .before .before .before .before .before .pre .2 in omega (arith, ready .handler, ready .ledger .range .handlers))
+    (λ c κs. let ready = c .before .before .before .before .before .before .pre .2 in (
       omega (arith, ready .ledger .long),
       omega (arith, ready .cells, ready .ledger .range .cells),
       omega (arith, ready .handler, ready .ledger .range .handlers),
@@ -38,10 +38,12 @@ is-too-many-spec =
     (λ c. search needs)
     (λ c. search needs)
     -- a try
-    (λ c. let start = c .before .before .before .before .before .before in
+    (λ c. let told = c .before .before in
+    let start = told .before .before .before .before .before in
     let ready = start .pre .2 in
-    for-kind (λ s. not (c .is-stale .result) ≡ tooMany (start .args .words .now) (start .args .i) s) try (ap kindIs (c .before .enum-told .given .1))
-    (try-too-many _ _ (ready .ledger) (ready .handler) (omega (arith, c .before .before .before .if1 .left)) (stale-told ready (c .is-stale .ensures))))
+    for-kind (λ s. not (c .is-stale .result) ≡ tooMany (start .args .words .now) (start .args .i) s) try (ap kindIs (told .enum-told .given .1))
+    (try-too-many _ _ (ready .ledger) (ready .handler) (omega (arith, told .before .before .if1 .left))
+    (stale-told ready (c .before .handler-row .ensures) (c .is-stale .ensures))))
     -- a begin, a read, a write
     (λ c. let args = c .before .before .before .before .before .args in
     passing (args .words .now) (args .i) begin (ap kindIs (c .enum-told2 .given .1)) (begin-passes (args .words .now) (args .i)))

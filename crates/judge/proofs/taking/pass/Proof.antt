@@ -2,8 +2,8 @@
 use mathlib.Core.Path.{_≡_, sym, _∙_}
 use native.Mathlib.Omega.{arith}
 use borrow.Author.Needs.{needs}
-use Rattle.rules.specs.Codes.{Step, known}
-use Rattle.steps.specs.Meaning.{kindIs}
+use Rattle.rules.specs.steps.Codes.{Step, known}
+use Rattle.checks.specs.Meaning.{kindIs}
 use Rattle.judge.proofs.Tests.{tooMany}
 use Rattle.judge.proofs.Passing.{has-room, pass-stops, pass-takes}
 use Rattle.judge.proofs.taking.pass.Statement.{statement}

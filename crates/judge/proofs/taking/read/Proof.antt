@@ -1,36 +1,52 @@
 -- `judge::taking::read` meets its contract: the copy, or abort 1, or the value of the present version, which is noted.
-use mathlib.Core.Path.{_≡_, sym, _∙_}
+use Prim.Native.Nat.{ℕ}
+use mathlib.Core.Path.{_≡_, ap, _∙_}
 use native.Mathlib.Omega.{arith}
 use borrow.Author.Needs.{needs}
-use Rattle.judge.proofs.Answers.{touched, isTorn, torn-told, takes-again, takes-torn, takes-first}
+use Rattle.layout.specs.Places.{copyAt}
+use Rattle.judge.proofs.Answers.{touched, isTorn, touched-told, torn-told, takes-again, takes-torn, takes-first}
 use Rattle.judge.proofs.taking.read.Statement.{statement}
 use Rattle.judge.proofs.taking.read.Tie as tie
 
+-- Where the handler's row is known, and where the function starts, seen from the first answer.
+abbrev row : tie.After-has-copy → tie.After-handler-row
+row c = c .before .before
+
+abbrev start : tie.After-has-copy → tie.Start
+start c = row c .before .before
+
+-- The first answer, seen from the second.
+abbrev first : tie.After-tears → tie.After-has-copy
+first c = c .before .before .before .before .before .before
+
 -- What was asked of the cell.
-asked : (c : tie.After-has-copy) → let args = c .before .before .before .args in touched (args .words .now) (args .i) (args .x) ≡ c .has-copy .result
-asked c = sym (c .has-copy .ensures _ (c .before .before .before .pre .cell))
+asked : (c : tie.After-has-copy) → let args = start c .args in touched (args .words .now) (args .i) (args .x) ≡ c .has-copy .result
+asked c =
+    let args = start c .args in
+    touched-told (args .words .now) (args .i) (args .x) (row c .handler-row .ensures) (c .has-copy .ensures _ (start c .pre .cell))
 
 -- What was asked of the commits.
-torn : (c : tie.After-tears) → let args = c .before .before .before .before .before .before .before .before .before .args in
-    isTorn (args .words .now) (args .i) (args .x) ≡ c .tears .result
+torn : (c : tie.After-tears) → let args = start (first c) .args in isTorn (args .words .now) (args .i) (args .x) ≡ c .tears .result
 torn c =
-    let pre = c .before .before .before .before .before .before .before .before .before .pre in
-    torn-told pre _ (c .before .before .writer-of .ensures .0 _ (pre .cell)) (c .tears .ensures)
+    let pre = start (first c) .pre in
+    torn-told pre _ (row (first c) .handler-row .ensures) (c .before .before .writer-of .ensures .0 _ (pre .cell)) (c .tears .ensures)
 
 pub read-spec : {M : Type 1} → statement M
 read-spec =
     tie.close
     (tie.spec
-    (λ c. search needs)
+    (λ c κs. search needs)
+    (λ c κs. search needs)
+    -- the copy
     (λ c κs. search needs)
     (λ c. search needs)
     (λ c. search needs)
     (λ c. search needs)
-    (λ c. search needs)
-    (λ c. search needs)
-    (λ c. search needs)
-    -- the copy
-    (λ c v. let told = c .before in takes-again (told .before .before .before .before .pre) (asked (told .before) ∙ told .if1 .taken) v)
+    (λ c v. let found = c .before in
+    let told = found .before in
+    let has = told .before in
+    takes-again (start has .pre) (found .copy-at .ensures ∙ ap (λ (k : ℕ). copyAt k (start has .args .x)) (row has .handler-row .ensures))
+    (asked has ∙ told .if1 .taken) v)
     (λ c. search needs)
     (λ c. search needs)
     (λ c κs. search needs)
@@ -39,26 +55,28 @@ read-spec =
     (λ c. search needs)
     -- abort 1
     (λ c v. let told = c .before .before .before .before in
-    let first = told .before .before .before .before .before .before in
-    takes-torn (first .before .before .before .before .pre) (asked (first .before) ∙ first .if1 .left) (torn (told .before) ∙ told .if2 .taken) v
-    (c .before .before .empty-row .ensures))
+    let has = first (told .before) in
+    let else = told .before .before .before .before .before .before in
+    takes-torn (start has .pre) (asked has ∙ else .if1 .left) (torn (told .before) ∙ told .if2 .taken) v
+    (row has .handler-row .ensures) (c .before .before .empty-row .ensures))
     (λ c κs. search needs)
     (λ c κs. let wrote = c .before .before .before .before .before .before in
-    let start = wrote .before .before .before .before .before .before .before in
-    let pre = start .pre in (
+    let has = wrote .before .before .before .before in
+    let pre = start has .pre in (
       (
         omega (arith, pre .handler, pre .ledger .range .handlers),
         omega (arith, pre .ledger .long),
         omega (arith, pre .cell, pre .ledger .range .cells),
         omega (arith, wrote .writer-of .ensures .1, pre .ledger .few),
       ),
-      wrote .before .before .before .before .before .before .slice-known .given _ .fits,
+      row has .before .slice-known .given _ .fits,
     ))
     (λ c. search needs)
     -- the value
     (λ c v. let told = c .before .before .before .before .before .before in
-    let first = told .before .before .before .before .before .before in
-    let start = first .before .before .before .before in
-    takes-first (start .pre) (asked (first .before) ∙ first .if1 .left) (torn (told .before) ∙ told .if2 .left) v _ _
-    (told .before .before .before .writer-of .ensures .0 _ (start .pre .cell)) (c .before .before .before .before .present-value .ensures _ (start .pre .cell))
-    (c .before .before .note-read .ensures)))
+    let has = first (told .before) in
+    let else = told .before .before .before .before .before .before in
+    let entry = start has in
+    takes-first (entry .pre) (asked has ∙ else .if1 .left) (torn (told .before) ∙ told .if2 .left) v _ _
+    (told .before .before .before .writer-of .ensures .0 _ (entry .pre .cell)) (c .before .before .before .before .present-value .ensures _ (entry .pre .cell))
+    (row has .handler-row .ensures) (c .before .before .note-read .ensures)))

@@ -4,11 +4,11 @@ use mathlib.Core.Path.{_≡_, ap}
 use mathlib.Core.List.{List}
 use native.Mathlib.Omega.{arith}
 use borrow.Author.Needs.{needs}
-use Rattle.rules.specs.Codes.{Step, begin, try, read, write, Kind, known}
-use Rattle.rules.specs.Replies.{Outcome}
-use Rattle.steps.specs.Meaning.{kindIs}
-use Rattle.steps.proofs.OneStep.{of-kind, for-kind, no-step}
-use Rattle.judge.specs.Taking.{Able, Takes}
+use Rattle.rules.specs.steps.Codes.{Step, begin, try, read, write, Kind, known}
+use Rattle.rules.specs.steps.Replies.{Outcome}
+use Rattle.checks.specs.Meaning.{kindIs}
+use Rattle.checks.proofs.OneStep.{of-kind, for-kind, no-step}
+use Rattle.judge.specs.Taking.{Able, TakesNoted}
 use Rattle.judge.proofs.Passing.{takes-begin, takes-write}
 use Rattle.judge.proofs.taking.take.Statement.{statement}
 use Rattle.judge.proofs.taking.take.Tie as tie
@@ -19,28 +19,31 @@ able-for {words} {m} {i} = of-kind (Able words m i)
 
 -- What has taken this step has taken that of the kind.
 takes-for : {words : List ℕ} {i value : ℕ} {outcome : Outcome ℕ} {after : List ℕ} {kind : Kind} (t : Step) → kind ≡ known t
-    → Takes words i t value outcome after → (s : Step) → kind ≡ known s → Takes words i s value outcome after
-takes-for {words} {i} {value} {outcome} {after} = for-kind (λ s. Takes words i s value outcome after)
+    → TakesNoted words i t value outcome after → (s : Step) → kind ≡ known s → TakesNoted words i s value outcome after
+takes-for {words} {i} {value} {outcome} {after} = for-kind (λ s. TakesNoted words i s value outcome after)
 
 pub take-spec : {M : Type 1} → statement M
 take-spec =
     tie.close
     (tie.spec
     (λ c. search needs)
-    (λ c. search needs)
+    (λ c κs. search needs)
     (λ c κs. search needs)
     (λ c. search needs)
     (λ c κs. able-for (c .before .before .before .before .pre) try (ap kindIs (c .before .enum-told2 .given .1)))
     (λ c. search needs)
     (λ c κs. able-for (c .before .before .before .before .before .pre) (read _) (ap kindIs (c .before .before .kind .given .1)) .ready)
     (λ c. search needs)
-    (λ c. search needs)
     (λ c κs. let ready = able-for (c .before .before .before .before .before .pre) (write _) (ap kindIs (c .before .before .kind2 .given .1)) .ready in
+    omega (arith, ready .handler, ready .ledger .range .handlers))
+    (λ c κs. let ready = able-for (c .before .before .before .before .before .before .pre) (write _) (ap kindIs (c .before .before .before .kind2 .given .1)) .ready in
     omega (arith, ready .handler, ready .cell, ready .ledger .long, ready .ledger .range .cells, ready .ledger .range .handlers))
     (λ c. search needs)
     (λ c. search needs)
     -- a begin
-    (λ c. takes-for begin (ap kindIs (c .before .before .before .before .enum-told .given .1)) (takes-begin _ _ _ (c .before .before .empty-row .ensures)))
+    (λ c. let emptied = c .before .before in
+    takes-for begin (ap kindIs (emptied .before .before .before .enum-told .given .1))
+    (takes-begin _ _ _ (emptied .before .handler-row .ensures) (emptied .empty-row .ensures)))
     (λ c. search needs)
     -- a try
     (λ c. takes-for try (ap kindIs (c .before .before .before .before .enum-told2 .given .1)) (c .before .before .attempt .ensures _))
@@ -49,7 +52,8 @@ take-spec =
     (λ c. takes-for (read _) (ap kindIs (c .before .before .before .before .before .kind .given .1)) (c .before .before .read .ensures _))
     (λ c. search needs)
     -- a write
-    (λ c. takes-for (write _) (ap kindIs (c .before .before .before .before .before .kind2 .given .1))
-    (takes-write _ _ _ _ (c .before .before .note-write .ensures)))
+    (λ c. let noted = c .before .before in
+    takes-for (write _) (ap kindIs (noted .before .before .before .before .kind2 .given .1))
+    (takes-write _ _ _ _ (noted .before .handler-row2 .ensures) (noted .note-write .ensures)))
     -- no step
     (λ c s e. absurd (no-step s (ap kindIs (c .enum-told3 .given .1)) e)))

@@ -1,7 +1,7 @@
 -- `schedule::scripts::step_bytes` meets its contract: the kind of the code decides.
 use mathlib.Core.Path.{sym, ap, _∙_}
 use borrow.Author.Needs.{needs}
-use Rattle.steps.specs.Meaning.{kindIs}
+use Rattle.checks.specs.Meaning.{kindIs}
 use Rattle.schedule.specs.Fronts.{stepBytes}
 use Rattle.schedule.proofs.scripts.step_bytes.Statement.{statement}
 use Rattle.schedule.proofs.scripts.step_bytes.Tie as tie

@@ -5,7 +5,7 @@ use native.Mathlib.Omega.{arith}
 use lib.ListN.{length, drop, length-drop}
 use borrow.Author.Needs.{needs}
 use Rattle.schedule.specs.Sound.{handlersIn, tableStart, scriptIn}
-use Rattle.schedule.specs.Fronts.{Standing, FrontOf}
+use Rattle.schedule.specs.Fronts.{StepInFront, FrontOf}
 use Rattle.schedule.specs.declared.scripts.Front.the-variants.{Refuses}
 use Rattle.schedule.specs.Taking.{cursorOf, leftOf}
 use Rattle.schedule.proofs.Sounds.{head-there, body-short}
@@ -40,7 +40,7 @@ refuses c =
 -- or a step.
 stands : (c : tie.After-known-told2) → let args = entry (c .before .before .before) .args in
     let step = c .before .code .given .0 in
-    Standing (leftOf (args .file .now) (args .t2 .at) (args .handler)) (step .0) (step .1 .0) (step .1 .1 .0)
+    StepInFront (leftOf (args .file .now) (args .t2 .at) (args .handler)) (step .0) (step .1 .0) (step .1 .1 .0)
 stands c =
     let args = entry (c .before .before .before) .args in
     subst (FrontOf (leftOf (args .file .now) (args .t2 .at) (args .handler)))

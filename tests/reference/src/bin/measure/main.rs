@@ -30,11 +30,13 @@ fn compared([ours, theirs]: [f64; 2], show: fn(f64) -> String) -> String {
     format!("{:>12} | {:>12} | {:>5.2}", show(ours), show(theirs), ours / theirs)
 }
 
+/// Prints one line of the table.
 fn line(size: &str, name: &str, instructions: [f64; 2], nanoseconds: [f64; 2]) {
     let times = compared(nanoseconds, |number| if number < 1000.0 { format!("{number:.1}") } else { grouped(number) });
     println!("| {size:>6} | {name:<44} | {} | {times} |", compared(instructions, grouped));
 }
 
+/// Prints the table: the rows, the two programs beside the reference's, and their memory.
 fn table(counts: &str, schedule: &str, paths: [&str; 4]) {
     let text = fs::read_to_string(counts).expect("the counts are there");
     let counts: Vec<f64> = text.lines().map(|line| line.parse().expect("a count")).collect();
@@ -59,6 +61,7 @@ fn table(counts: &str, schedule: &str, paths: [&str; 4]) {
     }
 }
 
+/// One of the three things that can be asked for.
 fn main() {
     let arguments: Vec<String> = std::env::args().skip(1).collect();
     match arguments.iter().map(String::as_str).collect::<Vec<_>>()[..] {

@@ -1,4 +1,5 @@
-//! Whole programs on the largest schedule: how long they take, and how much memory at most.
+//! Whole programs on the largest schedule: how long they take, and how much memory at most. Ours and the reference's take turns, so
+//! that whatever else the machine does meets both.
 use reference::random::Random;
 use reference::schedule::LONGEST;
 use reference::{generate, schedule};

@@ -1,6 +1,7 @@
-//! The rows that are measured: words, a call on them, and the reply that it has to give.
-use reference::proved::packed;
+//! The rows that are measured: words, a call on them, and the reply that it has to give. There is a row for each way that a step or
+//! an opening can end.
 use reference::register::{self, Reply};
+use reference::steps;
 
 /// One call of either register.
 #[derive(Clone, Copy)]
@@ -21,16 +22,18 @@ pub struct Row {
 
 pub const SIZES: [(u32, u32); 3] = [(2, 2), (8, 4), (32, 16)];
 
-const BEGIN: u32 = 0;
-const TRY: u32 = 1;
+const BEGIN: u32 = steps::BEGIN.code as u32;
+const TRY: u32 = steps::TRY.code as u32;
 const TOO_LARGE: u32 = 65_536;
 
+/// The code that reads a cell.
 fn read(cell: u32) -> u32 {
-    32 + cell
+    steps::read(cell as u8).code.into()
 }
 
+/// The code that writes a cell.
 fn write(cell: u32) -> u32 {
-    64 + cell
+    steps::write(cell as u8, 0).code.into()
 }
 
 /// A register on its way to what a row needs. The last handler's step is measured, with the last cell.
@@ -52,10 +55,12 @@ impl State {
         state
     }
 
+    /// The handler whose step is measured.
     fn last_handler(&self) -> u32 {
         self.n - 1
     }
 
+    /// The cell that is measured.
     fn last_cell(&self) -> u32 {
         self.m - 1
     }
@@ -87,6 +92,7 @@ impl State {
         self
     }
 
+    /// A row of any call.
     fn row(self, name: &'static str, call: Call, reply: u64) -> Row {
         Row { m: self.m, n: self.n, name, words: self.words, call, reply }
     }
@@ -94,7 +100,7 @@ impl State {
     /// A row of the measured handler's step.
     fn step(self, name: &'static str, code: u32, reply: Reply) -> Row {
         let handler = self.last_handler();
-        self.row(name, Call::Step { handler, code, value: 7 }, packed(reply))
+        self.row(name, Call::Step { handler, code, value: 7 }, reply.packed())
     }
 }
 
@@ -131,7 +137,7 @@ fn refused(lived: &State) -> Vec<Row> {
         state().with(last_number, TOO_LARGE).step("refused 10, the last number too large", BEGIN, Reply::Refused(10)),
         state().with(3, TOO_LARGE).step("refused 10, the first number too large", BEGIN, Reply::Refused(10)),
         short.step("refused 10, a word too few", BEGIN, Reply::Refused(10)),
-        state().row("refused 11", Call::Step { handler: n, code: BEGIN, value: 7 }, packed(Reply::Refused(11))),
+        state().row("refused 11", Call::Step { handler: n, code: BEGIN, value: 7 }, Reply::Refused(11).packed()),
     ];
     // With 32 cells every code of a read or a write names one, so there is no such refusal.
     if m < 32 {

@@ -1,4 +1,5 @@
-//! The two sides, called in the same way, checked against each other, counted and timed.
+//! The two sides, called in the same way, checked against each other, counted and timed. The reference's functions have names for C
+//! as the proved ones do, so that callgrind can tell where a call begins and ends.
 use crate::rows::{Call, Row};
 use reference::{proved, register};
 use std::hint::black_box;
@@ -17,7 +18,7 @@ pub extern "C" fn reference_open(words: *mut u32, long: usize, m: u32, n: u32) -
 #[inline(never)]
 pub extern "C" fn reference_step(words: *mut u32, long: usize, handler: u32, code: u32, value: u32) -> u64 {
     let words = unsafe { std::slice::from_raw_parts_mut(words, long) };
-    proved::packed(register::step(words, handler, code, value))
+    register::step(words, handler, code, value).packed()
 }
 
 /// Where a count of instructions ends: callgrind writes one down whenever this is called.
@@ -27,6 +28,7 @@ pub extern "C" fn measure_mark() {
     black_box(());
 }
 
+/// A call of the proved register.
 #[inline(always)]
 fn ours(call: Call, words: &mut [u32]) -> u64 {
     match call {
@@ -35,6 +37,7 @@ fn ours(call: Call, words: &mut [u32]) -> u64 {
     }
 }
 
+/// A call of the reference's.
 #[inline(always)]
 fn theirs(call: Call, words: &mut [u32]) -> u64 {
     match call {

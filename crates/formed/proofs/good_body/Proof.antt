@@ -1,0 +1,19 @@
+-- `formed::good_body` meets its contract: it answers no where the words are too few, and else whether there is no fault.
+use native.Mathlib.Omega.{arith}
+use borrow.Author.Needs.{needs}
+use Rattle.formed.proofs.Answers.{too-short, no-fault}
+use Rattle.formed.proofs.good_body.Statement.{statement}
+use Rattle.formed.proofs.good_body.Tie as tie
+
+pub good-body-spec : {M : Type 1} → statement M
+good-body-spec =
+    tie.close
+    (tie.spec
+    (λ c κs. search needs)
+    -- too short for the body
+    (λ c. too-short _ _ _ _ (omega arith))
+    -- looked at
+    (λ c κs. search needs)
+    (λ c κs. search needs)
+    (λ c. search needs)
+    (λ c. no-fault _ _ _ _ (omega arith) (c .before .cells-faults .ensures) (c .blocks-faults .ensures)))

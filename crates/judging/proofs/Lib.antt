@@ -1,2 +1,0 @@
--- The laws of a judged run.
-pub mod Tight

@@ -1,0 +1,2 @@
+-- Laws of the range.
+pub mod Ranges

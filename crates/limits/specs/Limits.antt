@@ -1,0 +1,26 @@
+-- The numbers of the documents and of our layouts that contracts cite; in code each is a constant of the same name.
+use Prim.Native.Nat.{ℕ}
+
+-- The most cells that a register has.
+abbrev pub mostCells : ℕ
+mostCells = 32
+
+-- The most handlers that a register has.
+abbrev pub mostHandlers : ℕ
+mostHandlers = 16
+
+-- The most that a dependency number can be.
+abbrev pub mostNumber : ℕ
+mostNumber = 65535
+
+-- The most commits that the judge notes.
+abbrev pub mostCommits : ℕ
+mostCommits = 64
+
+-- The most bytes that a schedule file has.
+abbrev pub mostFileBytes : ℕ
+mostFileBytes = 65535
+
+-- The rows of the judge's ledger: its head, one for each handler, and one for each commit.
+abbrev pub ledgerRows : ℕ
+ledgerRows = 81

@@ -1,0 +1,65 @@
+// The numbers of the documents and of our layouts, each said once, and the range of a register's cells and handlers.
+// PUBLIC: nothing here has a `requires`.
+ghost use mathlib.Core.Path.{_≡_};
+ghost use Rattle.rules.specs.steps.Checks.{inRange};
+
+// The most cells that a register has.
+pub const MOST_CELLS: u32 = 32;
+
+// The most handlers that a register has.
+pub const MOST_HANDLERS: u32 = 16;
+
+// The most that a dependency number can be.
+pub const MOST_NUMBER: u32 = 65535;
+
+// The least that no dependency number can be.
+pub const NO_NUMBER: u32 = MOST_NUMBER + 1;
+
+// The most commits that the judge notes.
+pub const MOST_COMMITS: u32 = 64;
+
+// The most bytes that a schedule file has.
+pub const MOST_FILE_BYTES: usize = 65535;
+
+// The words in front of a register's body: m and n.
+pub const FRONT: usize = 2;
+
+// The words of the largest register.
+pub const REGISTER_WORDS: usize = 2642;
+
+// A row with a word for each cell that there can be.
+pub const ROW: usize = MOST_CELLS as usize;
+
+// A table with an entry for each handler that there can be.
+pub const HANDLER_TABLE: usize = MOST_HANDLERS as usize;
+
+// As many commits as the judge notes.
+pub const COMMIT_TABLE: usize = MOST_COMMITS as usize;
+
+// A row of the judge's ledger: its head, its written cells as bits, and a source and a copy for each cell.
+pub const LEDGER_ROW: usize = 2 + 2 * ROW;
+
+// The rows of a ledger: its head, one for each handler, and one for each commit.
+pub const LEDGER_ROWS: usize = 1 + HANDLER_TABLE + COMMIT_TABLE;
+
+// The words of a ledger.
+pub const LEDGER_WORDS: usize = LEDGER_ROWS * LEDGER_ROW;
+
+// The words of a ledger behind m and n.
+pub const LEDGER_BEHIND: usize = LEDGER_WORDS - FRONT;
+
+// Whether m is 1 to 32 and n is 1 to 16.
+pub fn in_range(m: u32, n: u32) -> bool
+    ensures { λ r. ⌜ r ≡ inRange m n ⌝ }
+{
+    if m < 1 {
+        return false;
+    }
+    if m > MOST_CELLS {
+        return false;
+    }
+    if n < 1 {
+        return false;
+    }
+    n <= MOST_HANDLERS
+}

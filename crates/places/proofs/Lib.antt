@@ -1,0 +1,2 @@
+-- Laws of parts that are lent.
+pub mod Lent

@@ -1,0 +1,2 @@
+-- What a place says.
+pub mod Spans

@@ -1,0 +1,27 @@
+// Where things lie: the one crate that knows an offset. A place is a constant where it does not depend on the numbers of cells and
+// handlers, and else a function of them.
+// Internal: called by our crates alone, which show what each function requires.
+mod body;
+mod ledger;
+
+pub use body::CELLS;
+pub use body::HANDLER_NUMBERS;
+pub use body::HANDLERS;
+pub use body::NUMBERS;
+pub use body::PHASE;
+pub use body::READ_SET;
+pub use body::Span;
+pub use body::VALUE;
+pub use body::WRITTEN_SET;
+pub use body::block_at;
+pub use body::body_words;
+pub use body::cell_at;
+pub use body::copies;
+pub use body::transaction_numbers;
+pub use ledger::COMMITS_NOTED;
+pub use ledger::commit_row;
+pub use ledger::copy_at;
+pub use ledger::handler_row;
+pub use ledger::row_at;
+pub use ledger::source_at;
+pub use ledger::written_at;

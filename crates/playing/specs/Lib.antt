@@ -1,2 +1,0 @@
--- What is shown of a cell at the end of a run.
-pub mod Ending

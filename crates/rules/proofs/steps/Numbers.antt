@@ -1,0 +1,88 @@
+-- Nothing is lost in document 01's numbers: each numbering is injective. A numbering that can be read back is, so for reasons
+-- and refusals the reading back is written down.
+use Prim.Native.Nat.{ℕ}
+use native.Mathlib.Omega.{arith}
+use mathlib.Core.Path.{_≡_, refl, sym, ap, _∙_}
+use lib.Dec.{eqb}
+use Rattle.rules.specs.steps.Tables.{if_then_else_}
+use Rattle.rules.specs.steps.Replies.{Reason, torn, overtaken, spent, Outcome, ok, value, committed, aborted, Refusal}
+use Rattle.rules.specs.steps.Replies.{notWellFormed, noHandler, noCell, alreadyOpen, notOpen, unknownStep, outOfRange}
+use Rattle.rules.specs.steps.Replies.{tooShort, badFile, usedUp, tooManyCommits, reasonNumber, refusalNumber}
+use Rattle.rules.specs.steps.Replies.{Numbers, outcomeNumbers, refusalNumbers}
+
+-- Different things have different images.
+abbrev pub Injective : {A B : Type 0} → (A → B) → Type 0
+Injective {A} number = (a b : A) → number a ≡ number b → a ≡ b
+
+-- What can be read back is injective.
+pub read-back : {A B : Type 0} (number : A → B) (back : B → A) → ((a : A) → back (number a) ≡ a) → Injective number
+read-back number back same a b e = sym (same a) ∙ ap back e ∙ same b
+
+-- The reason of a number.
+reasonBack : ℕ → Reason
+reasonBack n = if eqb n 1 then torn else (if eqb n 2 then overtaken else spent)
+
+-- The refusal of a number.
+refusalBack : ℕ → Refusal
+refusalBack n =
+    if eqb n 10 then notWellFormed else (if eqb n 11 then noHandler
+    else (if eqb n 12 then noCell else (if eqb n 13 then alreadyOpen
+    else (if eqb n 14 then notOpen else (if eqb n 15 then unknownStep
+    else (if eqb n 20 then outOfRange else (if eqb n 21 then tooShort
+    else (if eqb n 30 then badFile else (if eqb n 32 then usedUp
+    else tooManyCommits)))))))))
+
+-- The outcome of an answer in numbers.
+outcomeBack : Numbers → Outcome ℕ
+outcomeBack n =
+    if eqb (n .kind) 0 then ok else (if eqb (n .kind) 1 then (value (n .detail))
+    else (if eqb (n .kind) 2 then committed else (aborted (reasonBack (n .detail)))))
+
+-- A reason comes back from its number.
+reason-back : (reason : Reason) → reasonBack (reasonNumber reason) ≡ reason
+unfolding reasonBack
+reason-back torn = refl
+reason-back overtaken = refl
+reason-back spent = refl
+
+-- A refusal comes back from its number.
+refusal-back : (refusal : Refusal) → refusalBack (refusalNumber refusal) ≡ refusal
+unfolding refusalBack
+refusal-back notWellFormed = refl
+refusal-back noHandler = refl
+refusal-back noCell = refl
+refusal-back alreadyOpen = refl
+refusal-back notOpen = refl
+refusal-back unknownStep = refl
+refusal-back outOfRange = refl
+refusal-back tooShort = refl
+refusal-back badFile = refl
+refusal-back usedUp = refl
+refusal-back tooManyCommits = refl
+
+-- An outcome comes back from its numbers.
+outcome-back : (outcome : Outcome ℕ) → outcomeBack (outcomeNumbers outcome) ≡ outcome
+unfolding outcomeBack
+outcome-back ok = refl
+outcome-back (value v) = refl
+outcome-back committed = refl
+outcome-back (aborted reason) = ap aborted (reason-back reason)
+
+-- No two reasons have the same number.
+pub reasons-apart : Injective reasonNumber
+reasons-apart = read-back reasonNumber reasonBack reason-back
+
+-- No two refusals have the same number.
+pub refusals-apart : Injective refusalNumber
+refusals-apart = read-back refusalNumber refusalBack refusal-back
+
+-- No two outcomes have the same kind and detail.
+pub outcomes-apart : Injective outcomeNumbers
+outcomes-apart = read-back outcomeNumbers outcomeBack outcome-back
+
+-- No outcome has the kind of a refusal.
+pub outcome-no-refusal : (outcome : Outcome ℕ) (refusal : Refusal) → outcomeNumbers outcome ≡ refusalNumbers refusal → ⊥
+outcome-no-refusal ok refusal e = let kinds : _≡_ {A = ℕ} 0 4 = ap (λ n. n .kind) e in omega arith
+outcome-no-refusal (value v) refusal e = let kinds : _≡_ {A = ℕ} 1 4 = ap (λ n. n .kind) e in omega arith
+outcome-no-refusal committed refusal e = let kinds : _≡_ {A = ℕ} 2 4 = ap (λ n. n .kind) e in omega arith
+outcome-no-refusal (aborted reason) refusal e = let kinds : _≡_ {A = ℕ} 3 4 = ap (λ n. n .kind) e in omega arith

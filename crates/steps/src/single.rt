@@ -1,0 +1,77 @@
+// Begin, write and read: each changes one handler's block, a part in the middle of the body, and no word outside it.
+ghost use mathlib.Core.Path.{_≡_};
+ghost use Rattle.rules.specs.steps.Codes as Codes;
+ghost use Rattle.rules.specs.steps.Register.{hasOpen};
+ghost use Rattle.rules.specs.steps.Replies as Replies;
+ghost use Rattle.layout.specs.View.{view};
+ghost use Rattle.replies.specs.Meaning.{outcomeIs};
+ghost use Rattle.steps.specs.Takes.{Seated, Ready, Unread, Takes};
+use places::block_at;
+use places::cell_at;
+use replies::Outcome;
+
+// Whether the handler's transaction is open.
+pub fn is_open(body: &[u32], m: usize, n: usize, i: usize) -> bool
+    requires { ⌜ Seated m n (now body) i ⌝ }
+    ensures { λ r. ⌜ r ≡ hasOpen (view m n (now (body .entry)) .handlers i) ⌝ }
+{
+    let span = block_at(m, i);
+    let start = span.start;
+    body[start + places::PHASE] != 0
+}
+
+// A begin.
+pub fn begin(body: &mut [u32], m: usize, n: usize, i: usize)
+    requires { ⌜ Ready m n (now body) i Codes.begin ⌝ }
+    ensures { λ _. ⌜ Takes m n (now (body .entry)) i Codes.begin 0 Replies.ok (now (body .exit)) ⌝ }
+{
+    let span = block_at(m, i);
+    let start = span.start;
+    let end = span.end;
+    block::begin(&mut body[start..end], m);
+}
+
+// A write of cell x.
+pub fn write(body: &mut [u32], m: usize, n: usize, i: usize, x: usize, value: u32)
+    requires { ⌜ Ready m n (now body) i (Codes.write x) ⌝ }
+    ensures { λ _. ⌜ Takes m n (now (body .entry)) i (Codes.write x) value Replies.ok (now (body .exit)) ⌝ }
+{
+    let span = block_at(m, i);
+    let start = span.start;
+    let end = span.end;
+    block::write(&mut body[start..end], m, x, value);
+}
+
+// A read of cell x that is in neither set: its value and its numbers are copied out, then the block is lent.
+fn first_read(body: &mut [u32], m: usize, n: usize, i: usize, x: usize) -> Outcome
+    requires { ⌜ Unread m n (now body) i x ⌝ }
+    ensures { λ r. ⌜ Takes m n (now (body .entry)) i (Codes.read x) 0 (outcomeIs r) (now (body .exit)) ⌝ }
+{
+    let cell = cell_at(m, x);
+    let first = cell.start;
+    let value = body[first + places::VALUE];
+    let numbers = words::copy_out(body, first + places::NUMBERS, m);
+    let span = block_at(m, i);
+    let start = span.start;
+    let end = span.end;
+    block::first_read(&mut body[start..end], m, x, value, &numbers)
+}
+
+// A read of cell x: the local copy, if it is in either set, and else the first read.
+pub fn read(body: &mut [u32], m: usize, n: usize, i: usize, x: usize) -> Outcome
+    requires { ⌜ Ready m n (now body) i (Codes.read x) ⌝ }
+    ensures { λ r. ⌜ Takes m n (now (body .entry)) i (Codes.read x) 0 (outcomeIs r) (now (body .exit)) ⌝ }
+{
+    let span = block_at(m, i);
+    let start = span.start;
+    let read = body[start + places::READ_SET];
+    let written = body[start + places::WRITTEN_SET];
+    let copies = start + places::copies(m);
+    if words::has(read, x) {
+        return Outcome::Value(body[copies + x]);
+    }
+    if words::has(written, x) {
+        return Outcome::Value(body[copies + x]);
+    }
+    first_read(body, m, n, i, x)
+}
