@@ -39,8 +39,8 @@ pub struct Cursors {
 pub enum Next {
     Rejected(Refusal),
     Over,
-    Refused { handler: u32, refusal: Refusal },
-    Taken { handler: u32, code: u32, value: u32 },
+    Refused { handler: u8, refusal: Refusal },
+    Taken { handler: u8, code: u8, value: u32 },
 }
 
 // What comes next, and the cursors afterwards.
