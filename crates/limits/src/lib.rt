@@ -21,6 +21,12 @@ pub const MOST_COMMITS: u32 = 64;
 // The most bytes that a schedule file has.
 pub const MOST_FILE_BYTES: usize = 65535;
 
+// The longest line of an order place, in bytes.
+pub const LONGEST_LINE: usize = 34;
+
+// The most bytes that are printed of a file: a line for each of its bytes, and the header and each cell as two lines more.
+pub const MOST_PRINTED: usize = (MOST_FILE_BYTES + 66) * LONGEST_LINE;
+
 // The words in front of a register's body: m and n.
 pub const FRONT: usize = 2;
 

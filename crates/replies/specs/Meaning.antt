@@ -1,6 +1,7 @@
 -- What each reply of this crate is in the rules: a definition for each kind of answer, case by case. Numbers and values come from
 -- the rules.
 use Prim.Native.Nat.{ℕ}
+use Rattle.rules.specs.Promise.{Promise, answering}
 use Rattle.rules.specs.steps.Replies as Rules
 use Rattle.replies.specs.declared.Reason.{Reason}
 use Rattle.replies.specs.declared.Reason.the-variants.{Torn, Overtaken, Spent}
@@ -11,6 +12,7 @@ use Rattle.replies.specs.declared.Refusal.the-variants.{NotWellFormed, N
 use Rattle.replies.specs.declared.Refusal.the-variants.{OutOfRange, TooShort, BadFile, UsedUp, TooManyCommits}
 use Rattle.replies.specs.declared.Answer.{Answer}
 use Rattle.replies.specs.declared.Answer.the-variants.{Reported, Refused}
+use Rattle.replies.specs.declared.Numbers.{Numbers}
 use Rattle.replies.specs.declared.Opened.{Opened}
 use Rattle.replies.specs.declared.Opened.the-variants.{Ready, Rejected}
 
@@ -50,3 +52,11 @@ replyIs (Refused refusal) = Rules.Reply.refused (refusalIs refusal)
 abbrev pub openingIs : Opened → Rules.Opening
 openingIs Ready = Rules.ready
 openingIs (Rejected refusal) = Rules.Opening.refused (refusalIs refusal)
+
+-- The rules' numbers of an answer.
+abbrev pub numbersAre : Numbers → Rules.Numbers
+numbersAre numbers = record { kind = numbers .kind; detail = numbers .detail }
+
+-- The promise of an answer in numbers.
+abbrev pub NumbersPromise : Rules.Reply ℕ → Rules.Numbers → Type 0
+NumbersPromise reply numbers = Promise (answering Rules.replyNumbers) reply numbers tt

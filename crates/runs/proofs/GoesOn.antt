@@ -16,7 +16,7 @@ use Rattle.layout.specs.View.{viewed}
 use Rattle.promises.specs.Stepping.{askedOf, turnOf}
 use Rattle.schedule.specs.Scripts.{ScriptStep}
 use Rattle.schedule.specs.Taking.{Cursors, Next, rejected, over, refused, taken, nextOf, cursorsAfter}
-use Rattle.runs.specs.Lines.{Line}
+use Rattle.lines.specs.Lines.{Line}
 use Rattle.runs.specs.Players.{theRegister, replyBy}
 use Rattle.runs.specs.ByPlaces.{inFront, lineFor, wordsFor, placesFrom}
 use Rattle.runs.specs.Stopping.{saysTooMany, stopsAt, everStops}

@@ -4,7 +4,7 @@ ghost use mathlib.Core.Path.{_≡_};
 ghost use Rattle.replies.specs.Meaning.{replyIs, openingIs};
 ghost use Rattle.replies.specs.Ends.{endIs};
 ghost use Rattle.schedule.specs.Meaning.{nextIs};
-ghost use Rattle.runs.specs.Lines.{lineIs};
+ghost use Rattle.lines.specs.Lines.{lineIs};
 ghost use Rattle.runs.specs.Players.{playerIs, PlayerOpeningPromise, PlayerStepPromise, PlayerEndPromise};
 ghost use Rattle.runs.specs.ByPlaces.{NextShown, PlacePromise};
 ghost use Rattle.runs.specs.Stopping.{saysTooMany, StopPromise};

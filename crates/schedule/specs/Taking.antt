@@ -7,7 +7,7 @@ use lib.Dec.{leb, ltb}
 use lib.ListN.{length, getD, set, drop, replicate}
 use Rattle.rules.specs.steps.Tables.{if_then_else_}
 use Rattle.rules.specs.steps.Codes.{plainSheet}
-use Rattle.rules.specs.Promise.{Due, Promise}
+use Rattle.rules.specs.Promise.{Due, Promise, answering}
 use Rattle.rules.specs.steps.Replies.{Refusal, badFile, noHandler, usedUp, unknownStep}
 use Rattle.rules.specs.steps.Checks.{Check, _when_, firstHit, isUnknown}
 use Rattle.schedule.specs.Bytes.{byteAt}
@@ -79,6 +79,14 @@ cursorsAfter cursors over = cursors
 cursorsAfter cursors (refused handler refusal) = cursors
 cursorsAfter cursors (taken handler step) =
     set cursors handler (cursorOf cursors handler + (1 + valueLong (plainSheet (step .code))))
+
+-- How many places the order has; none in a file that is not sound.
+unfoldable pub placesIn : List ℕ → ℕ
+placesIn file = if isSoundFile file then (length (orderIn file)) else 0
+
+-- The promise of the count of places.
+abbrev pub PlacesPromise : List ℕ → ℕ → Type 0
+PlacesPromise file reply = Promise (answering placesIn) file reply tt
 
 -- What the next step is asked of: the file, the cursors, and the order place.
 pub record NextCall : Type 0 where

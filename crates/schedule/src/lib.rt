@@ -8,7 +8,7 @@ mod taking;
 ghost use mathlib.Core.Path.{_≡_};
 ghost use Rattle.schedule.specs.Admitting.{AdmissionPromise};
 ghost use Rattle.schedule.specs.Finding.{ScriptPromise, AnswerPromise};
-ghost use Rattle.schedule.specs.Taking.{atStart, NextPromise};
+ghost use Rattle.schedule.specs.Taking.{atStart, NextPromise, PlacesPromise};
 ghost use Rattle.schedule.specs.Meaning.{admissionIs, foundIs, nextIs};
 use crate::sound::sound_file;
 use crate::sound::whole_scripts;
@@ -90,6 +90,18 @@ pub fn script(file: &[u8], handler: u32) -> &[u8]
         }
         Found::Missing(_) => &file[0..0],
     }
+}
+
+// How many places the order has; none in a file that is not sound.
+pub fn order_places(file: &[u8]) -> usize
+    ensures { λ r. ⌜ PlacesPromise (now (file .entry)) r ⌝ }
+{
+    if !sound_file(file) {
+        return 0;
+    }
+    let n = file[0] as usize;
+    let order = body(file, 2, n);
+    order.len()
 }
 
 // No step is used up.

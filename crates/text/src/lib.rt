@@ -34,6 +34,7 @@ pub fn put_text(buffer: &mut [u8], at: usize, text: &[u8]) -> usize
 pub fn put_number(buffer: &mut [u8], at: usize, n: u32) -> usize
     requires { ⌜ at ≤ farthest + 256 ⌝ }
     ensures { λ r. ⌜ Puts (decimal n) at r (now (buffer .entry)) (now (buffer .exit)) ⌝ }
+    ensures { λ r. ⌜ r ≤ at + 10 ⌝ }
 {
     if n < 10 {
         return put_byte(buffer, at, 48 + n as u8);

@@ -31,16 +31,18 @@ pub +put-number-spec : {M : Type 1} → statement M
     (λ c. omega arith)
     (λ c κs. omega arith)
     (λ c. c .before .before .put-byte .ensures .size)
-    (λ c. rw (decimal-digit (c .before .before .before .before .before .before .args .n) (omega arith)) (c .before .before .put-byte .ensures))
+    (λ c. let put = c .before .before .put-byte .ensures in
+    (rw (decimal-digit (c .before .before .before .before .before .before .args .n) (omega arith)) put, omega (arith, put .ends)))
     -- the tens
     (λ c κs. (omega arith, omega arith))
     -- the last digit
     (λ c. omega arith)
     (λ c. omega arith)
-    (λ c κs. let told = c .before .before .before .put-number in
-    let short = decimal-short 9 (c .before .before .before .before .before .before .before .args .n / 10) (omega arith) in
-    omega (arith, told .ensures .ends, short))
-    (λ c. c .before .before .put-byte2 .ensures .size ∙ c .before .before .before .before .before .before .put-number .ensures .size)
-    (λ c. let start = c .before .before .before .before .before .before .before .before .before .before in
-    let front = c .before .before .before .before .before .before .put-number .ensures in
-    rw (decimal-tens (start .args .n) (omega arith)) (puts-both front (c .before .before .put-byte2 .ensures)))
+    (λ c κs. omega (arith, c .before .before .before .put-number .ensures .1))
+    (λ c. c .before .before .put-byte2 .ensures .size ∙ c .before .before .before .before .before .before .put-number .ensures .0 .size)
+    (λ c. let n = c .before .before .before .before .before .before .before .before .before .before .args .n in
+    let front = c .before .before .before .before .before .before .put-number .ensures .0 in
+    let last = c .before .before .put-byte2 .ensures in (
+      rw (decimal-tens n (omega arith)) (puts-both front last),
+      omega (arith, front .ends, last .ends, decimal-short 8 (n / 10) (omega arith)),
+    ))

@@ -3,8 +3,8 @@ use Prim.Native.Nat.{ℕ}
 use mathlib.Core.Option.{Option, none, some}
 use Rattle.rules.specs.steps.Replies.{Refusal, Reply}
 use Rattle.replies.specs.Meaning.{refusalIs, replyIs}
-use Rattle.runs.specs.declared.Shown.{Shown}
-use Rattle.runs.specs.declared.Shown.the-variants.{Nothing, NoStep, Asked}
+use Rattle.lines.specs.declared.Shown.{Shown}
+use Rattle.lines.specs.declared.Shown.the-variants.{Nothing, NoStep, Asked}
 
 -- A line: place, handler, step code or none where none was taken, and the reply.
 pub record Line : Type 0 where
