@@ -8,10 +8,10 @@ ghost use Rattle.lines.specs.Lines.{lineIs};
 ghost use Rattle.runs.specs.Players.{playerIs, PlayerOpeningPromise, PlayerStepPromise, PlayerEndPromise};
 ghost use Rattle.runs.specs.ByPlaces.{NextShown, PlacePromise};
 ghost use Rattle.runs.specs.Stopping.{saysTooMany, StopPromise};
+use lines::Shown;
 use replies::Answer;
 use replies::End;
 use replies::Opened;
-use replies::Refusal;
 use schedule::Cursors;
 use schedule::Next;
 
@@ -19,20 +19,6 @@ use schedule::Next;
 pub enum Player {
     Register,
     Judge,
-}
-
-// What a place shows: nothing where the order has no such place, a refusal where no step was taken, or the answer to a step.
-pub enum Shown {
-    Nothing,
-    NoStep {
-        handler: u32,
-        refusal: Refusal,
-    },
-    Asked {
-        handler: u32,
-        code: u32,
-        answer: Answer,
-    },
 }
 
 // What a place shows, and the cursors afterwards.
@@ -84,7 +70,7 @@ fn show_next(player: Player, next: Next, words: &mut [u32]) -> Shown
             code,
             value,
         } => {
-            let answer = step(player, words, handler, code, value);
+            let answer = step(player, words, handler as u32, code as u32, value);
             Shown::Asked {
                 handler,
                 code,
