@@ -1,3 +1,5 @@
--- The laws of a whole run that is printed: place by place, and by the rules.
+-- The laws of a whole run that is printed: place by place, put together, and by the rules.
 pub mod Underway
 pub mod Cells
+pub mod Runs
+pub mod Whole
