@@ -8,6 +8,7 @@ use mathlib.Core.Option.{none, some}
 use lib.ListN.{length}
 use lib.Dec.{ltb}
 use borrow.Author.Tests.{lt-ltb}
+use Rattle.rules.specs.Promise.{Promise}
 use Rattle.rules.specs.steps.Replies.{Refusal, ready}
 use Rattle.rules.specs.steps.Tables.{if_then_else_}
 use Rattle.rules.proofs.steps.Tables.{by, found}
@@ -24,6 +25,8 @@ use Rattle.promises.proofs.Runs.{checks-pass, opens}
 use Rattle.replies.specs.Ends.{cellLine}
 use Rattle.ledger.specs.Entries.{ledgerLong}
 use Rattle.ledger.specs.Promises.{ledgerRefusal, LedgerPromise}
+use Rattle.text.specs.Lies.{Puts}
+use Rattle.text.proofs.Puts.{puts-whole}
 use Rattle.lines.specs.Lines.{Line}
 use Rattle.lines.specs.Texts.{headerText, linesText, cellText, endText, refusedText}
 use Rattle.schedule.specs.Sound.{handlersIn, cellsIn, orderIn}
@@ -41,7 +44,7 @@ use Rattle.runs.proofs.RunOf.{run-of-places, refused-run}
 use Rattle.runs.proofs.GoesOn.{register-goes-on}
 use Rattle.agreement.specs.Agreement.{cutAfter, commitsAmong, judgedFrom, Agree}
 use Rattle.agreement.proofs.Agrees.{judge-agrees}
-use Rattle.prints.specs.Printed.{registerText, playedText, printed, judgedText, judgedPrinted}
+use Rattle.prints.specs.Printed.{registerText, playedText, printed, judgedText, judgedPrinted, printing}
 use Rattle.prints.specs.ByPlaces.{shownCells, allPlaces, cellsBehind, openedWords, admittedText, fileText}
 use Rattle.prints.proofs.Cells.{cells-alike}
 
@@ -197,3 +200,8 @@ unfolding judgedText
 judge-prints file words long = found (fileRefusal file)
     (λ refusal e. refused-text theJudge file words e ∙ sym (ap judgedText (refused-run file e)))
     (λ free. judge-text file free words long)
+
+-- A text that is put whole, from the front on, is printed as promised.
+pub printing-kept : (text : List ℕ → List ℕ) (file : List ℕ) {told : List ℕ} {end : ℕ} {before after : List ℕ} → told ≡ text file
+    → Puts told 0 end before after → Promise (printing text) (record { file = file; buffer = before }) end after
+printing-kept text file is put = let whole = puts-whole (rw is at put) in record { replied = whole .0; left = whole .1 }

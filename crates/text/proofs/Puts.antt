@@ -71,3 +71,11 @@ puts-next bytes k {at} {end = end} {x} {z = z} within p q =
 -- and all of them.
 pub puts-all : (bytes : List ℕ) {at end : ℕ} {x y : List ℕ} → Puts (take (length bytes) bytes) at end x y → Puts bytes at end x y
 puts-all bytes {at} {end} {x} {y} = subst (λ t. Puts t at end x y) (take-length bytes)
+
+-- ── A whole text ──────────────────────────────────────────────────────
+
+-- A text put from the front on lies over the buffer, and its length is told.
+pub puts-whole : {text : List ℕ} {end : ℕ} {before after : List ℕ} → Puts text 0 end before after
+    → (end ≡ length text) × (after ≡ over text before)
+unfolding over
+puts-whole {text} {before = before} p = (omega (arith, p .ends), p .lies [] before refl refl)

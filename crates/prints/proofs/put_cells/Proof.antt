@@ -29,9 +29,11 @@ put-cells-spec =
     (λ c. omega arith)
     (λ c. omega arith)
     (λ c. let loop = c .before .before .before .before .before .before .loop in
-    let put = c .before .before .put-cell .ensures in
-    (omega arith, omega (arith, loop .inv .1, put .1),
-    cells-more _ (loop .c) (loop .inv .2) (rw (c .before .before .before .before .cell-end .ensures .replied) at (put .0))))
+    let put = c .before .before .put-cell .ensures in (
+      omega arith,
+      omega (arith, loop .inv .1, put .1),
+      cells-more _ (loop .c) (loop .inv .2) (rw (c .before .before .before .before .cell-end .ensures .replied) at (put .0)),
+    ))
     (λ c. c .before .loop .inv .2 .size)
     (λ c. let loop = c .before .loop in
     let all : loop .c ≡ c .before .before .before .before .args .cells = omega arith in

@@ -44,19 +44,22 @@ put-places-spec =
     (λ c. let put = c .before .before .before .before in
     let played = put .before .before .before .before .before in
     let loop = played .before .before .before .loop in
-    let stops = stops-anywhere (loop .place) (played .play-place .result .shown) ∙ sym (c .before .stops-at .ensures .replied) ∙ c .if1 .taken in
-    (underway-last (omega arith) (loop .inv .3) (played .play-place .ensures) (put .put-place .ensures .0) stops,
-    omega (arith, loop .inv .1, put .put-place .ensures .1)))
+    let stops = stops-anywhere (loop .place) (played .play-place .result .shown) ∙ sym (c .before .stops-at .ensures .replied) ∙ c .if1 .taken in (
+      underway-last (omega arith) (loop .inv .3) (played .play-place .ensures) (put .put-place .ensures .0) stops,
+      omega (arith, loop .inv .1, put .put-place .ensures .1),
+    ))
     -- one more place
     (λ c. omega arith)
     (λ c. omega arith)
     (λ c. let put = c .before .before .before .before in
     let played = put .before .before .before .before .before in
     let loop = played .before .before .before .loop in
-    let stops = stops-anywhere (loop .place) (played .play-place .result .shown) ∙ sym (c .before .stops-at .ensures .replied) ∙ c .if1 .left in
-    (omega arith, omega (arith, loop .inv .1, put .put-place .ensures .1),
-    still-long _ (length (loop .words)) _ (search needs) (loop .inv .2),
-    underway-more (omega arith) (loop .inv .3) (played .play-place .ensures) (put .put-place .ensures .0) stops))
+    let stops = stops-anywhere (loop .place) (played .play-place .result .shown) ∙ sym (c .before .stops-at .ensures .replied) ∙ c .if1 .left in (
+      omega arith,
+      omega (arith, loop .inv .1, put .put-place .ensures .1),
+      still-long _ (length (loop .words)) _ (search needs) (loop .inv .2),
+      underway-more (omega arith) (loop .inv .3) (played .play-place .ensures) (put .put-place .ensures .0) stops,
+    ))
     -- at the end
     (λ c. c .before .loop .inv .2)
     (λ c. c .before .loop .inv .3 .puts .size)
