@@ -3,3 +3,4 @@ pub mod Underway
 pub mod Cells
 pub mod Runs
 pub mod Whole
+pub mod Listings
