@@ -1,7 +1,7 @@
 -- Nothing is lost in what a reply means, nor in what is shown of a cell: different answers are different replies of the rules, and
 -- different ends different lines. Each meaning can be read back.
 use Prim.Native.Nat.{ℕ}
-use mathlib.Core.Path.{_≡_, refl, ap}
+use mathlib.Core.Path.{_≡_, refl, sym, ap, _∙_}
 use mathlib.Core.Option.{Option, none, some}
 use Rattle.rules.specs.steps.Replies as Rules
 use Rattle.rules.proofs.Determined.{Determined, determined}
@@ -20,6 +20,7 @@ use Rattle.replies.specs.declared.Opened.the-variants.{Ready, Rejected}
 use Rattle.replies.specs.declared.End.{End}
 use Rattle.replies.specs.declared.End.the-variants.{Cell, Missing}
 use Rattle.replies.specs.Meaning.{reasonIs, outcomeIs, refusalIs, replyIs, openingIs}
+use Rattle.replies.specs.Numbers.{ReasonPromise, RefusalPromise}
 use Rattle.replies.specs.Ends.{CellLine, endIs}
 
 -- ── Reading back ──────────────────────────────────────────────────────
@@ -135,3 +136,11 @@ opened-determined = determined openings-apart
 -- Whatever shows a cell's end, its promise allows one.
 pub end-determined : Determined endIs
 end-determined = determined ends-apart
+
+-- A reason has one number,
+pub reason-determined : (reason : Reason) {a b : ℕ} → ReasonPromise reason a → ReasonPromise reason b → a ≡ b
+reason-determined reason p q = p ∙ sym q
+
+-- and so has a refusal.
+pub refusal-determined : (refusal : Refusal) {a b : ℕ} → RefusalPromise refusal a → RefusalPromise refusal b → a ≡ b
+refusal-determined refusal p q = p ∙ sym q

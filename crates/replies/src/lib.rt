@@ -1,8 +1,6 @@
 // The replies of a register, as its callers see them: a report with an outcome with a reason, or a refusal; their numbers; and what is
-// shown of a cell at the end.
-ghost use mathlib.Core.Path.{_≡_};
-ghost use Rattle.rules.specs.steps.Replies.{reasonNumber, refusalNumber};
-ghost use Rattle.replies.specs.Meaning.{reasonIs, refusalIs};
+// shown of a cell at the end. PUBLIC: nothing here has a `requires`.
+ghost use Rattle.replies.specs.Numbers.{ReasonPromise, RefusalPromise};
 
 // Why a transaction was aborted.
 pub enum Reason {
@@ -61,7 +59,7 @@ pub enum End {
 
 // The number of a reason.
 pub fn reason_number(reason: Reason) -> u32
-    ensures { λ r. ⌜ r ≡ reasonNumber (reasonIs reason) ⌝ }
+    ensures { λ r. ⌜ ReasonPromise reason r ⌝ }
 {
     match reason {
         Reason::Torn => 1,
@@ -72,7 +70,7 @@ pub fn reason_number(reason: Reason) -> u32
 
 // The number of a refusal.
 pub fn refusal_number(refusal: Refusal) -> u32
-    ensures { λ r. ⌜ r ≡ refusalNumber (refusalIs refusal) ⌝ }
+    ensures { λ r. ⌜ RefusalPromise refusal r ⌝ }
 {
     match refusal {
         Refusal::NotWellFormed => 10,

@@ -15,6 +15,7 @@ use Rattle.schedule.specs.declared.Admitted.the-variants.{Sound}
 use Rattle.schedule.specs.declared.Found.{Found}
 use Rattle.schedule.specs.declared.Found.the-variants.{Script, Missing}
 use Rattle.schedule.specs.declared.Part.{Part}
+use Rattle.schedule.specs.declared.Cursors.{Cursors}
 use Rattle.schedule.specs.declared.Next.{Next}
 use Rattle.schedule.specs.declared.Next.the-variants.{Over, Refused, Taken}
 use Rattle.schedule.specs.Meaning.{admissionIs, foundIs, nextIs}
@@ -71,6 +72,10 @@ admitted-determined = determined admitted-apart
 -- so has the question for a script,
 pub found-determined : Determined foundIs
 found-determined = determined found-apart
+
+-- so have the cursors before the first order place;
+pub start-determined : {a b : Cursors} → Taking.StartPromise (a .at) → Taking.StartPromise (b .at) → a ≡ b
+start-determined p q = ap (λ at. record { at = at }) (one-outcome p q .0)
 
 -- a script lies in one place,
 pub part-determined : {file : List ℕ} {handler : ℕ} {a b : Part} → PartPromise file handler a → PartPromise file handler b → a ≡ b

@@ -5,10 +5,9 @@ mod sound;
 mod table;
 mod taking;
 
-ghost use mathlib.Core.Path.{_≡_};
 ghost use Rattle.schedule.specs.Admitting.{AdmissionPromise};
 ghost use Rattle.schedule.specs.Finding.{ScriptPromise, PartPromise, AnswerPromise};
-ghost use Rattle.schedule.specs.Taking.{atStart, NextPromise};
+ghost use Rattle.schedule.specs.Taking.{StartPromise, NextPromise};
 ghost use Rattle.schedule.specs.Meaning.{admissionIs, foundIs, nextIs};
 use crate::sound::sound_file;
 use crate::sound::whole_scripts;
@@ -113,7 +112,7 @@ pub fn script(file: &[u8], handler: u32) -> &[u8]
 
 // No step is used up.
 pub fn at_start() -> Cursors
-    ensures { λ r. ⌜ r .at ≡ atStart ⌝ }
+    ensures { λ r. ⌜ StartPromise (r .at) ⌝ }
 {
     Cursors {
         at: [0; limits::HANDLER_TABLE],
