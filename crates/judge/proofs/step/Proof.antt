@@ -69,4 +69,5 @@ step-spec =
     -- passed
     (λ c. let told = c .before .before .before .before in
     let verdict = told .before .before in
-    step-passes _ _ _ _ (ledger (kept-at verdict)) (passes told) (λ s asks. c .before .before .pass .ensures s (kind-at verdict .kind-of .ensures .replied ∙ asks))))
+    step-passes _ _ _ _ (ledger (kept-at verdict)) (passes told)
+    (λ s asks. c .before .before .pass .ensures s (kind-at verdict .kind-of .ensures .replied ∙ asks))))
