@@ -11,11 +11,12 @@ pub fn put_byte(buffer: &mut [u8], at: usize, byte: u8) -> usize
     requires { ⌜ at ≤ farthest + 512 ⌝ }
     ensures { λ r. ⌜ Puts (byte ∷ []) at r (now (buffer .entry)) (now (buffer .exit)) ⌝ }
 {
-    if at >= buffer.len() {
-        return at + 1;
+    let behind = at + 1;
+    if behind > buffer.len() {
+        return behind;
     }
     buffer[at] = byte;
-    at + 1
+    behind
 }
 
 // Puts a text at a place; the place behind it.
