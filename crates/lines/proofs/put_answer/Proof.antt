@@ -1,10 +1,10 @@
 -- `lines::put_answer` meets its contract: a report's outcome, or else the refusal.
+use mathlib.Core.Path.{ap, _∙_}
+use native.Mathlib.Omega.{arith}
+use borrow.Author.Needs.{needs}
 use Rattle.rules.specs.steps.Replies.{replyNumbers}
 use Rattle.replies.specs.Meaning.{replyIs}
 use Rattle.text.proofs.Puts.{puts-both}
-use borrow.Author.Needs.{needs}
-use mathlib.Core.Path.{ap, _∙_}
-use native.Mathlib.Omega.{arith}
 use Rattle.lines.proofs.put_answer.Statement.{statement}
 use Rattle.lines.proofs.put_answer.Tie as tie
 

@@ -1,8 +1,8 @@
 -- `lines::put_cell` meets its contract: word and number three times, and the end of the line.
-use Rattle.lines.specs.Texts.{cellText}
-use Rattle.text.proofs.Puts.{puts-none, puts-both}
-use borrow.Author.Needs.{needs}
 use native.Mathlib.Omega.{arith}
+use borrow.Author.Needs.{needs}
+use Rattle.text.proofs.Puts.{puts-none, puts-both}
+use Rattle.lines.specs.Texts.{cellText}
 use Rattle.lines.proofs.put_cell.Statement.{statement}
 use Rattle.lines.proofs.put_cell.Tie as tie
 

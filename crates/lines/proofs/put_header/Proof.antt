@@ -1,8 +1,8 @@
 -- `lines::put_header` meets its contract: word, number, word, number, and the end of the line.
-use Rattle.lines.specs.Texts.{headerText}
-use Rattle.text.proofs.Puts.{puts-both}
-use borrow.Author.Needs.{needs}
 use native.Mathlib.Omega.{arith}
+use borrow.Author.Needs.{needs}
+use Rattle.text.proofs.Puts.{puts-both}
+use Rattle.lines.specs.Texts.{headerText}
 use Rattle.lines.proofs.put_header.Statement.{statement}
 use Rattle.lines.proofs.put_header.Tie as tie
 

@@ -1,9 +1,9 @@
 -- `lines::put_outcome` meets its contract: a word, and a value or a reason behind it.
-use Rattle.text.proofs.Puts.{puts-both}
-use Rattle.lines.specs.Texts.{outcomeText}
-use borrow.Author.Needs.{needs}
 use mathlib.Core.Path.{sym, subst}
 use native.Mathlib.Omega.{arith}
+use borrow.Author.Needs.{needs}
+use Rattle.text.proofs.Puts.{puts-both}
+use Rattle.lines.specs.Texts.{outcomeText}
 use Rattle.lines.proofs.put_outcome.Statement.{statement}
 use Rattle.lines.proofs.put_outcome.Tie as tie
 
@@ -32,7 +32,8 @@ put-outcome-spec =
     (λ c. let told = c .before .before in
     let named = told .before .before .before .before in
     let value = told .put-number .ensures in
-    (rw (named .before .before .before .before .outcome .given .1) (puts-both (named .put-text2 .ensures) (value .0)), omega (arith, named .put-text2 .ensures .ends, value .1)))
+    let text = named .put-text2 .ensures in
+    (rw (named .before .before .before .before .outcome .given .1) (puts-both text (value .0)), omega (arith, text .ends, value .1)))
     (λ c. search needs)
     (λ c. let put = c .before .before .put-text3 .ensures in (rw (c .before .before .before .before .before .enum-told2 .given .1) put, omega (arith, put .ends)))
     (λ c. search needs)

@@ -1,9 +1,9 @@
 -- `lines::put_place` meets its contract: place, handler, step code or none, the answer, and the end of the line.
+use native.Mathlib.Omega.{arith}
+use borrow.Author.Needs.{needs}
 use Rattle.text.proofs.Decimals.{decimal-short}
 use Rattle.text.proofs.Puts.{puts-none, puts-both}
 use Rattle.lines.specs.Texts.{lineText}
-use borrow.Author.Needs.{needs}
-use native.Mathlib.Omega.{arith}
 use Rattle.lines.proofs.put_place.Statement.{statement}
 use Rattle.lines.proofs.put_place.Tie as tie
 

@@ -1,9 +1,9 @@
 -- `lines::put_refusal` meets its contract: the word, and the refusal's number.
-use Rattle.text.specs.Lies.{Puts}
-use Rattle.text.proofs.Puts.{puts-both}
-use borrow.Author.Needs.{needs}
 use mathlib.Core.Path.{subst}
 use native.Mathlib.Omega.{arith}
+use borrow.Author.Needs.{needs}
+use Rattle.text.specs.Lies.{Puts}
+use Rattle.text.proofs.Puts.{puts-both}
 use Rattle.lines.proofs.put_refusal.Statement.{statement}
 use Rattle.lines.proofs.put_refusal.Tie as tie
 

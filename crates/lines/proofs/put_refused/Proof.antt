@@ -1,8 +1,8 @@
 -- `lines::put_refused` meets its contract: the refusal, and the end of the line.
-use Rattle.lines.specs.Texts.{refusedText}
-use Rattle.text.proofs.Puts.{puts-both}
-use borrow.Author.Needs.{needs}
 use native.Mathlib.Omega.{arith}
+use borrow.Author.Needs.{needs}
+use Rattle.text.proofs.Puts.{puts-both}
+use Rattle.lines.specs.Texts.{refusedText}
 use Rattle.lines.proofs.put_refused.Statement.{statement}
 use Rattle.lines.proofs.put_refused.Tie as tie
 

@@ -1,8 +1,8 @@
 -- `lines::put_start` meets its contract: place and handler, of at most five and three digits.
+use native.Mathlib.Omega.{arith}
+use borrow.Author.Needs.{needs}
 use Rattle.text.proofs.Decimals.{decimal-short}
 use Rattle.text.proofs.Puts.{puts-both}
-use borrow.Author.Needs.{needs}
-use native.Mathlib.Omega.{arith}
 use Rattle.lines.proofs.put_start.Statement.{statement}
 use Rattle.lines.proofs.put_start.Tie as tie
 
