@@ -30,13 +30,16 @@ static void take(struct bytes *bytes, size_t count) {
 }
 
 // Makes the call on the archive: the number that it gives.
-static uint64_t answer(const struct request *request, uint32_t *words) {
+static uint64_t answer(const struct request *request, const uint8_t *file, void *changeable) {
+    uint32_t *words = changeable;
     const size_t length = request->changeable / sizeof *words;
     const uint32_t a = (uint32_t)request->numbers[0], b = (uint32_t)request->numbers[1], c = (uint32_t)request->numbers[2];
     switch (request->function) {
     case LENGTH: return zidlemowo_length(a, b);
     case OPEN: return zidlemowo_open(words, length, a, b);
     case STEP: return zidlemowo_step(words, length, a, b, c);
+    case RUN: return zidlemowo_run(file, request->read_only, changeable, request->changeable);
+    case JUDGE: return zidlemowo_judge(file, request->read_only, changeable, request->changeable);
     default: fail("a request for no function"); return 0;
     }
 }
@@ -47,7 +50,7 @@ int main(void) {
     while (receive_all(STDIN_FILENO, &request, sizeof request)) {
         take(&read_only, request.read_only);
         take(&changeable, request.changeable);
-        const uint64_t number = answer(&request, changeable.start);
+        const uint64_t number = answer(&request, read_only.start, changeable.start);
         if (!send_all(STDOUT_FILENO, &number, sizeof number) || !send_all(STDOUT_FILENO, changeable.start, request.changeable)) {
             fail("nobody takes the reply");
         }

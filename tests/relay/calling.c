@@ -70,3 +70,11 @@ uint32_t zidlemowo_open(uint32_t *words, size_t length, uint32_t m, uint32_t n) 
 uint64_t zidlemowo_step(uint32_t *words, size_t length, uint32_t handler, uint32_t code, uint32_t value) {
     return call((struct request){STEP, 0, length * sizeof *words, {handler, code, value}}, NULL, words);
 }
+
+size_t zidlemowo_run(const uint8_t *file, size_t file_length, uint8_t *output, size_t output_length) {
+    return (size_t)call((struct request){RUN, file_length, output_length, {0, 0, 0}}, file, output);
+}
+
+size_t zidlemowo_judge(const uint8_t *file, size_t file_length, uint8_t *output, size_t output_length) {
+    return (size_t)call((struct request){JUDGE, file_length, output_length, {0, 0, 0}}, file, output);
+}
