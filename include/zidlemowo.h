@@ -107,7 +107,8 @@ static inline uint32_t zidlemowo_kind(uint64_t reply) { return (uint32_t)(reply 
 // The detail of a reply to a step: the value read, the reason of an abort, the refusal, or 0.
 static inline uint32_t zidlemowo_detail(uint64_t reply) { return (uint32_t)(reply & UINT32_MAX); }
 
-// The code of a cell in the range that begins with `first`. A cell of 32 or above would get the code of another step: it gets none.
+// The code of a cell in the range that begins with `first`. A cell of 32 or above would get the code of another step: it gets none, and
+// so its read or write is refused with 15, where that of a cell from m to 31 is refused with 12.
 static inline uint32_t zidlemowo_cell_code(uint32_t first, uint32_t cell) {
     return cell < (uint32_t)ZIDLEMOWO_MOST_CELLS ? first + cell : (uint32_t)ZIDLEMOWO_NO_CODE;
 }

@@ -5,7 +5,7 @@
 fn main() {
     let mut file = io::large_buffer();
     let count = filters::read_file(&mut file);
-    let mut printed = prints::room();
+    let mut printed = filters::room();
     let long = prints::judge(&file[..count], &mut printed);
     filters::write_front(&printed, long);
 }

@@ -2,8 +2,6 @@
 // whether it fits or not, as C's snprintf does.
 // PUBLIC: `run` and `judge` have no `requires`; each promise fixes the reply and every byte of the buffer, for all files and buffers.
 ghost use Prim.Native.Nat.{_+_, _*_, _≤_};
-ghost use mathlib.Core.Path.{_≡_};
-ghost use lib.ListN.{length};
 ghost use Rattle.limits.specs.Limits.{mostCells, mostFileBytes, longestLine, mostPrinted};
 ghost use Rattle.text.specs.Lies.{Puts, farthest};
 ghost use Rattle.schedule.specs.Taking.{atStart};
@@ -122,11 +120,4 @@ pub fn judge(file: &[u8], buffer: &mut [u8]) -> usize
 {
     let mut words = [0u32; limits::LEDGER_WORDS];
     put_file(Player::Judge, file, &mut words, buffer)
-}
-
-// A buffer of zeros with room for everything that is printed of any file.
-pub fn room() -> [u8; limits::MOST_PRINTED]
-    ensures { λ r. ⌜ mostPrinted ≡ length r ⌝ }
-{
-    [0; limits::MOST_PRINTED]
 }

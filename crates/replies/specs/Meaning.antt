@@ -1,7 +1,6 @@
 -- What each reply of this crate is in the rules: a definition for each kind of answer, case by case. Numbers and values come from
 -- the rules.
 use Prim.Native.Nat.{ℕ}
-use Rattle.rules.specs.Promise.{Promise, answering}
 use Rattle.rules.specs.steps.Replies as Rules
 use Rattle.replies.specs.declared.Reason.{Reason}
 use Rattle.replies.specs.declared.Reason.the-variants.{Torn, Overtaken, Spent}
@@ -56,7 +55,3 @@ openingIs (Rejected refusal) = Rules.Opening.refused (refusalIs refusal)
 -- The rules' numbers of an answer.
 abbrev pub numbersAre : Numbers → Rules.Numbers
 numbersAre numbers = record { kind = numbers .kind; detail = numbers .detail }
-
--- The promise of an answer in numbers.
-abbrev pub NumbersPromise : Rules.Reply ℕ → Rules.Numbers → Type 0
-NumbersPromise reply numbers = Promise (answering Rules.replyNumbers) reply numbers tt

@@ -1,8 +1,9 @@
 // The replies of a register, as its callers see them: a report with an outcome with a reason, or a refusal; their numbers; and what is
-// shown of a cell at the end.
+// shown of a cell at the end. PUBLIC: nothing here has a `requires`.
 ghost use mathlib.Core.Path.{_≡_};
-ghost use Rattle.rules.specs.steps.Replies.{reasonNumber, refusalNumber, outcomeNumbers};
-ghost use Rattle.replies.specs.Meaning.{reasonIs, refusalIs, outcomeIs, replyIs, numbersAre, NumbersPromise};
+ghost use Rattle.rules.specs.steps.Replies.{outcomeNumbers};
+ghost use Rattle.replies.specs.Meaning.{outcomeIs, replyIs, numbersAre};
+ghost use Rattle.replies.specs.Numbers.{ReasonPromise, RefusalPromise, NumbersPromise};
 
 // Why a transaction was aborted.
 pub enum Reason {
@@ -67,7 +68,7 @@ pub enum End {
 
 // The number of a reason.
 pub fn reason_number(reason: Reason) -> u32
-    ensures { λ r. ⌜ r ≡ reasonNumber (reasonIs reason) ⌝ }
+    ensures { λ r. ⌜ ReasonPromise reason r ⌝ }
 {
     match reason {
         Reason::Torn => 1,
@@ -78,7 +79,7 @@ pub fn reason_number(reason: Reason) -> u32
 
 // The number of a refusal.
 pub fn refusal_number(refusal: Refusal) -> u32
-    ensures { λ r. ⌜ r ≡ refusalNumber (refusalIs refusal) ⌝ }
+    ensures { λ r. ⌜ RefusalPromise refusal r ⌝ }
 {
     match refusal {
         Refusal::NotWellFormed => 10,

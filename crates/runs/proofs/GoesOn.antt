@@ -9,9 +9,9 @@ use lib.Dec.{eqb}
 use Rattle.rules.specs.steps.Replies.{Refusal, refusalNumber}
 use Rattle.rules.specs.steps.Checks.{Asked}
 use Rattle.rules.specs.steps.Given.{Given, malformed, unlisted, unseated, outside, twice, early}
-use Rattle.rules.specs.steps.Turn.{Turn}
+use Rattle.rules.specs.steps.Turn.{Turn, takenTurn, refusedTurn}
 use Rattle.rules.proofs.steps.Given.{Verdict, verdict}
-use Rattle.rules.proofs.steps.Turns.{refusedTurn, takenTurn, given-turn, free-turn}
+use Rattle.rules.proofs.steps.Turns.{given-turn, free-turn}
 use Rattle.layout.specs.View.{viewed}
 use Rattle.promises.specs.Stepping.{askedOf, turnOf}
 use Rattle.schedule.specs.Scripts.{ScriptStep}

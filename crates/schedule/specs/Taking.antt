@@ -26,6 +26,14 @@ cursorOf cursors handler = getD cursors handler 0
 abbrev pub atStart : Cursors
 atStart = replicate 16 0
 
+-- The question for them is given nothing.
+abbrev pub starts : Unit {0} → Due Cursors Unit
+starts = answering (λ asked. atStart)
+
+-- The promise of the cursors before the first order place.
+abbrev pub StartPromise : Cursors → Type 0
+StartPromise cursors = Promise starts tt cursors tt
+
 -- What comes next at an order place.
 pub data Next : Type 0 where
   -- the whole file is refused

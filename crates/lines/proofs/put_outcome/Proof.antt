@@ -38,7 +38,7 @@ put-outcome-spec =
     (λ c. search needs)
     (λ c. let told = c .before .before in
     let named = told .before .before .before .before .before in
-    let reason = rw (told .before .reason-number .ensures) at (told .put-number2 .ensures .0) in (
+    let reason = rw (told .before .reason-number .ensures .replied) at (told .put-number2 .ensures .0) in (
       rw (named .before .before .before .before .outcome2 .given .1) (puts-both (named .put-text4 .ensures) reason),
       omega (arith, named .put-text4 .ensures .ends, told .put-number2 .ensures .1),
     )))

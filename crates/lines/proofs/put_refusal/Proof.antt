@@ -18,5 +18,5 @@ put-refusal-spec =
     (λ c. search needs)
     (λ c. let told = c .before .before in
     let named = told .before .before .before .before .before .put-text .ensures in
-    let number = rw (told .before .refusal-number .ensures) at (told .put-number .ensures .0) in
+    let number = rw (told .before .refusal-number .ensures .replied) at (told .put-number .ensures .0) in
     (puts-both named number, omega (arith, named .ends, told .put-number .ensures .1))))

@@ -33,7 +33,7 @@ put-places-spec =
     μ-loop
     (λ c κs. search needs)
     -- before the first place
-    (λ c. (omega arith, omega arith, refl, rw (c .at-start .ensures) underway-start))
+    (λ c. (omega arith, omega arith, refl, rw (c .at-start .ensures .replied) underway-start))
     (λ c κs. search needs)
     (λ c κs. let loop = c .before .before .before .before .before .before .before .loop in (omega (arith, loop .inv .1, c .before .before .before .before .before .before .before .before .before .before .before .before .pre), omega arith))
     (λ c κs. search needs)

@@ -18,5 +18,5 @@ outcome-numbers-spec =
     (λ c. ap (λ o. outcomeNumbers (outcomeIs o)) (sym (c .enum-told .given .1)))
     (λ c. ap (λ o. outcomeNumbers (outcomeIs o)) (sym (c .before .outcome .given .1)))
     (λ c. ap (λ o. outcomeNumbers (outcomeIs o)) (sym (c .enum-told2 .given .1)))
-    (λ c. ap (λ k. record { kind = 3; detail = k }) (c .reason-number .ensures)
+    (λ c. ap (λ k. record { kind = 3; detail = k }) (c .reason-number .ensures .replied)
     ∙ ap (λ o. outcomeNumbers (outcomeIs o)) (sym (c .before .before .outcome2 .given .1))))
