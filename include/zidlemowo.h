@@ -91,14 +91,16 @@ uint64_t zidlemowo_step(uint32_t *words, size_t length, uint32_t handler, uint32
 // Runs a whole schedule file from a fresh register, and gives the text that the program `runner` prints of it: a header, a line for
 // each order place and one for each cell, or the one line of a refused file. It is as with snprintf, but for the byte 0 at the end,
 // which there is not: the length of the whole text is given, whether it fits or not; `output` begins with as much of it as fits, and
-// its bytes behind are untouched. So a first call with an output of length 0 tells how many bytes to lend.
+// its bytes behind are untouched. So a first call with an output of length 0 tells how many bytes to lend. The length and every byte
+// of the output are proved, for any file and any output.
 //
 // Any `file_length` bytes are a file, and any `output_length` bytes an output; either may be NULL where its length is 0. The file is
-// read only, and the two must not overlap. Nothing is allocated: the register's words are on the stack while it runs, some 11 KB.
+// read only, and the two must not overlap. Nothing is allocated: the register's words, some 11 KB, are on the stack during the call.
 size_t zidlemowo_run(const uint8_t *file, size_t file_length, uint8_t *output, size_t output_length);
 
 // Runs a whole schedule file by the judge, and gives the text that the program `judged` prints of it: what zidlemowo_run gives, up to
-// a 65th commit, where the text ends with a line `refused 33`. In all else it is as zidlemowo_run; its notes on the stack are some 22 KB.
+// a 65th commit, where the text ends with a line `refused 33`. In all else it is as zidlemowo_run. The judge's words, some 22 KB, are
+// on the stack during the call.
 size_t zidlemowo_judge(const uint8_t *file, size_t file_length, uint8_t *output, size_t output_length);
 
 // The kind of a reply to a step: ZIDLEMOWO_OK to ZIDLEMOWO_REFUSED.
