@@ -1,11 +1,12 @@
-// The proved register for programs in C11 and C++17: three functions on words that the caller lends.
+// The proved register for programs in C11 and C++17: three functions on words that the caller lends, and two that run a whole
+// schedule file.
 //
 // A register has m cells (1 to 32) and n handlers (1 to 16). A handler runs one transaction at a time, in four steps: begin, read a
 // cell, write a cell, try to commit. Every reply, and every word left behind, is proved to be what docs/PROMISES.md promises, for
 // any words, handler, code and value: bad input is refused by number and changes nothing.
 //
 // Link with target/staticlib/libgateway.a, which `rt staticlib gateway` proves and builds for x86-64 Linux. It needs nothing of the
-// C library but memcpy and memset. examples/gateway.c is a whole program.
+// C library but memcpy and memset. examples/gateway.c and examples/run.c are whole programs.
 //
 // The words. They belong to the caller, who may put them anywhere and copy, move, keep or free them between calls. They are lent
 // for the time of a call: nothing is kept, allocated or freed. A register lies in front of them (docs/LAYOUT.md); words beyond it
@@ -14,12 +15,12 @@
 //
 // Threads. No function takes a lock, and none keeps anything outside the words. One register takes one step at a time: two calls on
 // the same words must not overlap, an opening among them, and nothing else may read or write the words during a call. Calls on
-// different words may overlap.
+// different words, or into different outputs, may overlap.
 #ifndef ZIDLEMOWO_H
 #define ZIDLEMOWO_H
 
-#include <stddef.h> // size_t: how many words are lent
-#include <stdint.h> // uint32_t: a word; uint64_t: the reply to a step
+#include <stddef.h> // size_t: how many words or bytes are lent
+#include <stdint.h> // uint32_t: a word; uint64_t: the reply to a step; uint8_t: a byte of a file or of a text
 
 #ifdef __cplusplus
 extern "C" { // in C++ the functions keep their C names
@@ -27,10 +28,12 @@ extern "C" { // in C++ the functions keep their C names
 
 // How large things may be.
 enum {
-    ZIDLEMOWO_MOST_CELLS = 32,     // the most cells: m is 1 to 32
-    ZIDLEMOWO_MOST_HANDLERS = 16,  // the most handlers: n is 1 to 16
-    ZIDLEMOWO_MOST_WORDS = 2642,   // the words of the largest register, m = 32 and n = 16
-    ZIDLEMOWO_MOST_NUMBER = 65535, // the largest number of a cell, a handler or a transaction
+    ZIDLEMOWO_MOST_CELLS = 32,        // the most cells: m is 1 to 32
+    ZIDLEMOWO_MOST_HANDLERS = 16,     // the most handlers: n is 1 to 16
+    ZIDLEMOWO_MOST_WORDS = 2642,      // the words of the largest register, m = 32 and n = 16
+    ZIDLEMOWO_MOST_NUMBER = 65535,    // the largest number of a cell, a handler or a transaction
+    ZIDLEMOWO_MOST_FILE = 65535,      // the most bytes of a schedule file: a longer one is refused with 30
+    ZIDLEMOWO_MOST_PRINTED = 2230434, // no text of a whole run has more bytes, whatever the file
 };
 
 // The words of a register of m cells and n handlers, both in range, as a constant, to declare an array with: 2 + m(m+1) + n(3+3m).
@@ -85,13 +88,29 @@ uint32_t zidlemowo_open(uint32_t *words, size_t length, uint32_t m, uint32_t n);
 // step looks at it. Gives kind * 2^32 + detail, which zidlemowo_kind and zidlemowo_detail take apart.
 uint64_t zidlemowo_step(uint32_t *words, size_t length, uint32_t handler, uint32_t code, uint32_t value);
 
+// Runs a whole schedule file from a fresh register, and gives the text that the program `runner` prints of it: a header, a line for
+// each order place and one for each cell, or the one line of a refused file. It is as with snprintf, but for the byte 0 at the end,
+// which there is not: the length of the whole text is given, whether it fits or not; `output` begins with as much of it as fits, and
+// its bytes behind are untouched. So a first call with an output of length 0 tells how many bytes to lend. The length and every byte
+// of the output are proved, for any file and any output.
+//
+// Any `file_length` bytes are a file, and any `output_length` bytes an output; either may be NULL where its length is 0. The file is
+// read only, and the two must not overlap. Nothing is allocated: the register's words, some 11 KB, are on the stack during the call.
+size_t zidlemowo_run(const uint8_t *file, size_t file_length, uint8_t *output, size_t output_length);
+
+// Runs a whole schedule file by the judge, and gives the text that the program `judged` prints of it: what zidlemowo_run gives, up to
+// a 65th commit, where the text ends with a line `refused 33`. In all else it is as zidlemowo_run. The judge's words, some 22 KB, are
+// on the stack during the call.
+size_t zidlemowo_judge(const uint8_t *file, size_t file_length, uint8_t *output, size_t output_length);
+
 // The kind of a reply to a step: ZIDLEMOWO_OK to ZIDLEMOWO_REFUSED.
 static inline uint32_t zidlemowo_kind(uint64_t reply) { return (uint32_t)(reply >> 32); }
 
 // The detail of a reply to a step: the value read, the reason of an abort, the refusal, or 0.
 static inline uint32_t zidlemowo_detail(uint64_t reply) { return (uint32_t)(reply & UINT32_MAX); }
 
-// The code of a cell in the range that begins with `first`. A cell of 32 or above would get the code of another step: it gets none.
+// The code of a cell in the range that begins with `first`. A cell of 32 or above would get the code of another step: it gets none, and
+// so its read or write is refused with 15, where that of a cell from m to 31 is refused with 12.
 static inline uint32_t zidlemowo_cell_code(uint32_t first, uint32_t cell) {
     return cell < (uint32_t)ZIDLEMOWO_MOST_CELLS ? first + cell : (uint32_t)ZIDLEMOWO_NO_CODE;
 }

@@ -27,18 +27,22 @@
 //!
 //! A refusal is an error: nothing was changed. An abort is a normal outcome of a read or a try: it ends the transaction, of which
 //! nothing is kept. So a step that can abort gives a result within a result, as in `Ok(Err(Abort::Overtaken))`.
+//!
+//! A whole schedule file is run at once by [`run`] and judged by [`judge`], which give what the programs print of it.
 #![deny(missing_docs, unsafe_code)]
 
 #[allow(unsafe_code)]
 mod raw;
 mod register;
 mod replies;
+mod runs;
 mod shared;
 mod step;
 mod transact;
 
 pub use register::{needed, Register};
 pub use replies::{Abort, Refusal, Reply};
+pub use runs::{judge, judge_into, run, run_into, MOST_PRINTED};
 pub use shared::Shared;
 pub use step::Step;
 pub use transact::{NotCommitted, Stopped, Transaction};

@@ -2,11 +2,13 @@
 //! Their promises are in `crates/gateway`; none of them asks anything of its arguments. `tests/reference` takes this file too, and
 //! compares what they give with a second register.
 
-// A `&mut [u32]` passes as a pointer and then a length in words.
+// A slice passes as a pointer and then a length in words or bytes.
 extern "C" {
     fn zidlemowo_length(m: u32, n: u32) -> u32;
     fn zidlemowo_open(words: *mut u32, long: usize, m: u32, n: u32) -> u32;
     fn zidlemowo_step(words: *mut u32, long: usize, handler: u32, code: u32, value: u32) -> u64;
+    fn zidlemowo_run(file: *const u8, file_long: usize, output: *mut u8, output_long: usize) -> usize;
+    fn zidlemowo_judge(file: *const u8, file_long: usize, output: *mut u8, output_long: usize) -> usize;
 }
 
 /// The words that a register needs; 0 where m or n is out of range.
@@ -25,4 +27,16 @@ pub fn open(words: &mut [u32], m: u32, n: u32) -> u32 {
 pub fn step(words: &mut [u32], handler: u32, code: u32, value: u32) -> u64 {
     // SAFETY: pointer and length are those of one slice that is lent for the call alone.
     unsafe { zidlemowo_step(words.as_mut_ptr(), words.len(), handler, code, value) }
+}
+
+/// Runs a file: the length of what the runner prints of it, which is put into the output as far as it fits.
+pub fn run(file: &[u8], output: &mut [u8]) -> usize {
+    // SAFETY: each pointer and length are those of one slice that is lent for the call alone.
+    unsafe { zidlemowo_run(file.as_ptr(), file.len(), output.as_mut_ptr(), output.len()) }
+}
+
+/// Judges a file: the length of what the judge prints of it, which is put into the output as far as it fits.
+pub fn judge(file: &[u8], output: &mut [u8]) -> usize {
+    // SAFETY: each pointer and length are those of one slice that is lent for the call alone.
+    unsafe { zidlemowo_judge(file.as_ptr(), file.len(), output.as_mut_ptr(), output.len()) }
 }

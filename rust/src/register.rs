@@ -118,32 +118,21 @@ impl<'a> Register<'a> {
         Reply::of_step(raw::step(words, handler, code, value))
     }
 
-    /// Takes a step.
+    /// Takes a step. A read or a write of cell m or above is refused with 12, and of cell 32 or above, which no code names, with 15.
     ///
     /// ```
-    /// use zidlemowo::{Register, Reply, Step};
+    /// use zidlemowo::{Refusal, Register, Reply, Step};
     ///
     /// let mut register = Register::new(2, 1)?;
     /// assert_eq!(register.take(0, Step::Begin), Reply::Done);
     /// assert_eq!(register.take(0, Step::Read(1)), Reply::Value(0));
+    /// assert_eq!(register.take(0, Step::Read(31)), Reply::Refused(Refusal::NoCell));
+    /// assert_eq!(register.take(0, Step::Read(32)), Reply::Refused(Refusal::UnknownStep));
     /// assert_eq!(register.take(0, Step::Try), Reply::Committed);
-    /// # Ok::<(), zidlemowo::Refusal>(())
+    /// # Ok::<(), Refusal>(())
     /// ```
     pub fn take(&mut self, handler: u32, step: Step) -> Reply {
-        match step.code() {
-            Some(code) => self.step(handler, code, step.value()),
-            None => self.beyond_all_cells(handler),
-        }
-    }
-
-    /// The reply to a read or write of a cell that no code names: the first of 10, 11 and 12 that holds.
-    fn beyond_all_cells(&mut self, handler: u32) -> Reply {
-        match self.step(handler, u32::MAX, 0) {
-            // An unknown code is told so on a well-formed register alone, and there word 1 is the number of handlers.
-            Reply::Refused(Refusal::UnknownStep) if handler >= self.words()[1] => Reply::Refused(Refusal::NoHandler),
-            Reply::Refused(Refusal::UnknownStep) => Reply::Refused(Refusal::NoCell),
-            not_well_formed => not_well_formed,
-        }
+        self.step(handler, step.code(), step.value())
     }
 
     /// Begins a transaction of the handler.

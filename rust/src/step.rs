@@ -5,10 +5,10 @@
 /// ```
 /// use zidlemowo::Step;
 ///
-/// assert_eq!(Step::Begin.code(), Some(0));
-/// assert_eq!(Step::Try.code(), Some(1));
-/// assert_eq!(Step::Read(31).code(), Some(63));
-/// assert_eq!(Step::Write(0, 5).code(), Some(64));
+/// assert_eq!(Step::Begin.code(), 0);
+/// assert_eq!(Step::Try.code(), 1);
+/// assert_eq!(Step::Read(31).code(), 63);
+/// assert_eq!(Step::Write(0, 5).code(), 64);
 /// ```
 #[derive(Clone, Copy, Debug, PartialEq, Eq, Hash)]
 pub enum Step {
@@ -26,19 +26,24 @@ pub enum Step {
 const CODED: u32 = 32;
 
 impl Step {
-    /// The code that stands for the step; none where it names a cell that no register has, and so no code stands for it.
+    /// Stands for no step, being above 255: what a cell that no code names, 32 or above, gets. It is refused with 15.
+    pub const NO_CODE: u32 = 256;
+
+    /// The code that stands for the step; [`NO_CODE`](Step::NO_CODE) where it names a cell that no register has.
     ///
     /// ```
+    /// use zidlemowo::Step;
+    ///
     /// // 32 + 32 would be the code of a write.
-    /// assert_eq!(zidlemowo::Step::Read(32).code(), None);
+    /// assert_eq!(Step::Read(32).code(), Step::NO_CODE);
     /// ```
-    pub fn code(self) -> Option<u32> {
+    pub fn code(self) -> u32 {
         match self {
-            Step::Begin => Some(0),
-            Step::Try => Some(1),
-            Step::Read(cell) if cell < CODED => Some(32 + cell),
-            Step::Write(cell, _) if cell < CODED => Some(64 + cell),
-            Step::Read(_) | Step::Write(..) => None,
+            Step::Begin => 0,
+            Step::Try => 1,
+            Step::Read(cell) if cell < CODED => 32 + cell,
+            Step::Write(cell, _) if cell < CODED => 64 + cell,
+            Step::Read(_) | Step::Write(..) => Step::NO_CODE,
         }
     }
 
@@ -64,7 +69,7 @@ mod tests {
     #[test]
     fn the_codes_are_those_that_the_register_knows() {
         let cells = (0..CODED).flat_map(|cell| [Step::Read(cell), Step::Write(cell, 7)]);
-        let codes: BTreeSet<u32> = cells.chain([Step::Begin, Step::Try]).filter_map(Step::code).collect();
+        let codes: BTreeSet<u32> = cells.chain([Step::Begin, Step::Try]).map(Step::code).collect();
         assert_eq!(codes.len(), 66);
         for code in (0..300).chain([u32::MAX]) {
             let reply = Register::new(32, 1).expect("in range").step(0, code, 0);
@@ -75,7 +80,7 @@ mod tests {
     #[test]
     fn no_code_stands_for_a_cell_that_no_register_has() {
         for cell in [32, 33, 63, 64, u32::MAX - 32, u32::MAX] {
-            assert_eq!((Step::Read(cell).code(), Step::Write(cell, 7).code()), (None, None), "cell {cell}");
+            assert_eq!((Step::Read(cell).code(), Step::Write(cell, 7).code()), (Step::NO_CODE, Step::NO_CODE), "cell {cell}");
         }
     }
 }

@@ -178,12 +178,14 @@ fn handlers_cells_and_codes_that_there_are_not() {
             let before = register.words().to_vec();
             for handler in [handlers, 16, 17, 1 << 31, u32::MAX] {
                 for step in STEPS {
-                    assert_eq!(register.take(handler, step), Reply::Refused(Refusal::NoHandler), "{handler} {step:?}");
+                    let refused = if step.code() == Step::NO_CODE { Refusal::UnknownStep } else { Refusal::NoHandler };
+                    assert_eq!(register.take(handler, step), Reply::Refused(refused), "{handler} {step:?}");
                 }
             }
             for cell in (cells..100).chain([255, 1 << 31, u32::MAX - 63, u32::MAX - 31, u32::MAX]) {
-                assert_eq!(register.read(0, cell), Err(Refusal::NoCell), "cell {cell} of {cells}");
-                assert_eq!(register.write(0, cell, 7), Err(Refusal::NoCell), "cell {cell} of {cells}");
+                let refused = if cell < 32 { Refusal::NoCell } else { Refusal::UnknownStep };
+                assert_eq!(register.read(0, cell), Err(refused), "cell {cell} of {cells}");
+                assert_eq!(register.write(0, cell, 7), Err(refused), "cell {cell} of {cells}");
             }
             for code in (2..32).chain(96..300).chain([1 << 31, u32::MAX]) {
                 for handler in [0, handlers, u32::MAX] {

@@ -80,8 +80,11 @@ static void codes(void) {
         demand("the code that reads no cell", zidlemowo_read_code(beyond[k]), ZIDLEMOWO_NO_CODE);
         demand("the code that writes no cell", zidlemowo_write_code(beyond[k]), ZIDLEMOWO_NO_CODE);
     }
-    const struct line unknown[] = {{0, ZIDLEMOWO_NO_CODE, 0, ZIDLEMOWO_REFUSED, ZIDLEMOWO_UNKNOWN_STEP}};
-    PLAY("the code of no step", unknown);
+    const struct line absent[] = {{0, zidlemowo_read_code(31), 0, ZIDLEMOWO_REFUSED, ZIDLEMOWO_NO_CELL},
+                                  {0, zidlemowo_write_code(31), 5, ZIDLEMOWO_REFUSED, ZIDLEMOWO_NO_CELL},
+                                  {0, zidlemowo_read_code(32), 0, ZIDLEMOWO_REFUSED, ZIDLEMOWO_UNKNOWN_STEP},
+                                  {0, zidlemowo_write_code(32), 5, ZIDLEMOWO_REFUSED, ZIDLEMOWO_UNKNOWN_STEP}};
+    PLAY("cells that there are not", absent);
 }
 
 int main(void) {

@@ -10,7 +10,7 @@ use Rattle.rules.proofs.steps.Tables.{by, both-ways, or-left, or-right}
 use Rattle.ledger.specs.Promises.{reportsCommit}
 use Rattle.schedule.specs.Scripts.{ScriptStep}
 use Rattle.schedule.specs.Taking.{Cursors, Next, rejected, over, refused, taken, nextOf, cursorsAfter}
-use Rattle.runs.specs.Lines.{Line, noStep, stepLine}
+use Rattle.lines.specs.Lines.{Line, noStep, stepLine}
 use Rattle.runs.specs.Players.{theRegister, theJudge, replyBy}
 use Rattle.runs.specs.ByPlaces.{Stretch, inFront, lineFor, wordsFor, placesFrom}
 use Rattle.runs.specs.Stopping.{stops, everStops}

@@ -9,7 +9,7 @@ use lib.Dec.{ltb, leb·suc-suc}
 use borrow.Author.Tests.{lt-ltb, le-ltb}
 use Rattle.rules.specs.steps.Tables.{isFound}
 use Rattle.ledger.specs.Promises.{reportsCommit}
-use Rattle.runs.specs.Lines.{Line}
+use Rattle.lines.specs.Lines.{Line}
 use Rattle.runs.specs.Stopping.{stops, untilStop, everStops}
 use Rattle.agreement.specs.Agreement.{tooMany, cutAfter, commitsAmong}
 

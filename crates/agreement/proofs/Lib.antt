@@ -4,4 +4,3 @@ pub mod Counts
 pub mod Beside
 pub mod Alongside
 pub mod Agrees
-pub mod Nothing

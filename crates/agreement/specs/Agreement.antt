@@ -14,7 +14,7 @@ use Rattle.ledger.specs.Promises.{reportsCommit, LedgerPromise}
 use Rattle.schedule.specs.Sound.{orderIn}
 use Rattle.schedule.specs.Taking.{atStart}
 use Rattle.judge.specs.Ending.{judgedEnd}
-use Rattle.runs.specs.Lines.{Line}
+use Rattle.lines.specs.Lines.{Line}
 use Rattle.runs.specs.ByRules.{Run, ran, runOf}
 use Rattle.runs.specs.Players.{theJudge}
 use Rattle.runs.specs.ByPlaces.{placesFrom, Stretch}

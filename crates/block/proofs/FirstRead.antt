@@ -10,7 +10,7 @@ use Rattle.rules.proofs.steps.Tables.{put-here, put-beyond}
 use Rattle.rules.proofs.steps.Confined.{ConfinedHandler}
 use Rattle.layout.specs.Places.{phaseIn, readSetIn}
 use Rattle.layout.specs.View.{wordSetting, viewHandler, pourHandler}
-use Rattle.layout.proofs.Bits.{withBit}
+use Rattle.layout.specs.Bits.{withBit}
 use Rattle.layout.proofs.Blocks.{HoldsHandler, handler-is, view-handler-is, viewed-handler, viewed-confined}
 use Rattle.words.specs.Rows.{Changed}
 use Rattle.block.specs.Blocks.{OpenBlock, rowTable, rowCell, raisedBy, readHandler, readOutcome, ReadsFirst}

@@ -13,7 +13,7 @@ use Rattle.layout.specs.View.{wordSetting, viewHandler, pourHandler}
 use Rattle.layout.proofs.Bits.{mask-none}
 use Rattle.layout.proofs.Rows.{below-inside}
 use Rattle.layout.proofs.Blocks.{HoldsHandler, handler-is, poured-handler}
-use Rattle.layout.proofs.Untouched.{Untouched}
+use Rattle.layout.specs.Rows.{Untouched}
 use Rattle.words.specs.Rows.{Changed}
 use Rattle.block.proofs.Stores.{Stored, stored}
 

@@ -9,9 +9,9 @@ use lib.ListN.{getD}
 use Rattle.rules.specs.steps.Tables.{if_then_else_}
 use Rattle.rules.specs.steps.Register.{Cell, Handler}
 use Rattle.rules.specs.steps.Figure.{joined, taken, wrote}
-use Rattle.layout.specs.Bits.{hasBit}
+use Rattle.layout.specs.Bits.{hasBit, withBit}
 use Rattle.layout.specs.Places.{phaseIn, readSetIn, writtenSetIn}
-use Rattle.layout.proofs.Bits.{withBit, has-mask}
+use Rattle.layout.proofs.Bits.{has-mask}
 use Rattle.layout.proofs.Blocks.{HoldsHandler}
 use Rattle.words.specs.Rows.{Changed}
 use Rattle.block.specs.Blocks.{rowTable, rowCell, raisedBy}

@@ -8,8 +8,8 @@ use lib.ListN.{length, getD, set, length-set}
 use lib.Seq.{getD-set-same, getD-set-other}
 use Rattle.rules.specs.steps.Tables.{put}
 use Rattle.rules.proofs.steps.Tables.{put-each}
-use Rattle.layout.specs.Bits.{hasBit, mask}
-use Rattle.layout.proofs.Bits.{withBit, mask-small, mask-ext, mask-with, has-mask}
+use Rattle.layout.specs.Bits.{hasBit, mask, withBit}
+use Rattle.layout.proofs.Bits.{mask-small, mask-ext, mask-with, has-mask}
 
 -- One word is the given one, and every other is as before.
 pub record Stored (place v : ℕ) (block after : List ℕ) : Type 0 where

@@ -3,6 +3,7 @@ use mathlib.Core.Path.{_≡_, refl, ap}
 use mathlib.Core.Option.{Option, none, some}
 use Rattle.rules.specs.steps.Codes as Codes
 use Rattle.rules.specs.steps.Replies as Rules
+use Rattle.rules.proofs.Determined.{Determined, determined}
 use Rattle.rules.proofs.steps.Numbers.{Injective, read-back}
 use Rattle.replies.proofs.Apart.{refusalBack, refusal-same}
 use Rattle.checks.specs.declared.Kind.{Kind}
@@ -44,3 +45,11 @@ verdict-same (Refuses refusal) = ap Refuses (refusal-same refusal)
 -- Different verdicts differ in the rules.
 pub verdicts-apart : Injective verdictIs
 verdicts-apart = read-back verdictIs verdictBack verdict-same
+
+-- A code has one kind,
+pub kind-determined : Determined kindIs
+kind-determined = determined kinds-apart
+
+-- and the checks of a step one verdict.
+pub verdict-determined : Determined verdictIs
+verdict-determined = determined verdicts-apart

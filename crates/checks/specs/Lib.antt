@@ -1,2 +1,3 @@
--- What the enums of this crate mean in the rules.
+-- What the enums of this crate mean in the rules, and what is promised of them.
 pub mod Meaning
+pub mod Promises

@@ -2,11 +2,10 @@
 // Shared by all that take steps, with the words of a register or without them: a code is read and a step is refused in one place.
 mod kinds;
 
-ghost use mathlib.Core.Path.{_≡_};
 ghost use mathlib.Core.Bool.{true};
-ghost use Rattle.rules.specs.steps.Codes.{plainSheet};
-ghost use Rattle.rules.specs.steps.Checks.{asking, firstHit, stepChecks};
+ghost use Rattle.rules.specs.steps.Checks.{asking};
 ghost use Rattle.checks.specs.Meaning.{kindIs, verdictIs};
+ghost use Rattle.checks.specs.Promises.{KindPromise, VerdictPromise};
 use crate::kinds::is_begin;
 use crate::kinds::is_beyond;
 use crate::kinds::is_unknown;
@@ -29,7 +28,7 @@ pub enum Verdict {
 
 // The kind of a step code.
 pub fn kind_of(code: u32) -> Kind
-    ensures { λ r. ⌜ kindIs r ≡ plainSheet code ⌝ }
+    ensures { λ r. ⌜ KindPromise code (kindIs r) ⌝ }
 {
     match code {
         0 => Kind::Begin,
@@ -43,7 +42,7 @@ pub fn kind_of(code: u32) -> Kind
 // What the checks say of a step where there are m cells and n handlers, in their order: 15, 11, 12, then 13 or 14.
 // Only 10 goes before them, and it is for whoever has words to look at.
 pub fn verdict_of(m: usize, n: u32, handler: u32, kind: Kind, opened: bool) -> Verdict
-    ensures { λ r. ⌜ verdictIs r ≡ firstHit (stepChecks (asking true m n handler (kindIs kind) opened)) ⌝ }
+    ensures { λ r. ⌜ VerdictPromise (asking true m n handler (kindIs kind) opened) (verdictIs r) ⌝ }
 {
     if is_unknown(kind) {
         return Verdict::Refuses(Refusal::UnknownStep);

@@ -1,9 +1,9 @@
 -- Nothing of an answer is lost in its number: a length, the answer to an opening and the answer to a step can each be told from it.
-use Prim.Native.Nat.{ℕ, _^_, _<_}
+use Prim.Native.Nat.{ℕ, _^_, _≤_, _<_}
 use native.Mathlib.Omega.{arith}
 use mathlib.Core.Path.{_≡_, refl, sym, ap}
 use mathlib.Core.Option.{none}
-use Rattle.rules.specs.steps.Replies.{torn, overtaken, spent, Outcome, ok, value, committed, aborted, Refusal, Reply, Opening, ready}
+use Rattle.rules.specs.steps.Replies.{torn, overtaken, spent, Outcome, ok, value, committed, aborted, Refusal, Reply, reported, Opening, ready}
 use Rattle.rules.specs.steps.Replies.{notWellFormed, noHandler, noCell, alreadyOpen, notOpen, unknownStep, outOfRange, tooShort}
 use Rattle.rules.specs.steps.Replies.{badFile, usedUp, tooManyCommits}
 use Rattle.rules.specs.steps.Replies.{Numbers, refusalNumber, outcomeNumbers, refusalNumbers, replyNumbers}
@@ -24,6 +24,17 @@ packed-apart a b small other e =
     let kinds : a .kind ≡ b .kind = omega (arith, small, other, e) in
     let details : a .detail ≡ b .detail = omega (arith, small, other, e) in
     λ t. record { kind = kinds t; detail = details t }
+
+-- No kind is more than a refusal's.
+pub kind-small : (reply : Reply ℕ) → replyNumbers reply .kind ≤ 4
+kind-small (reported report) = small (report .outcome)
+  where
+    small : (outcome : Outcome ℕ) → outcomeNumbers outcome .kind ≤ 4
+    small ok = omega arith
+    small (value v) = omega arith
+    small committed = omega arith
+    small (aborted reason) = omega arith
+kind-small (Reply.refused refusal) = omega arith
 
 -- ── A step ────────────────────────────────────────────────────────────
 

@@ -1,14 +1,11 @@
-// The register for programs in C and Rust: exported functions on numbers and words, thin over `register`.
-// PUBLIC: nothing here has a `requires`. Each promise is the register's, said of numbers.
+// The register for programs in C and Rust: exported functions on numbers and words, thin over `register` and `prints`.
+// PUBLIC: nothing here has a `requires`. Each promise is the register's, said of numbers, or a whole run's.
 ghost use mathlib.Core.Path.{_≡_};
 ghost use Prim.Native.Nat.{_+_, _*_, _^_, _≤_};
-ghost use Rattle.rules.specs.steps.Replies.{outcomeNumbers};
-ghost use Rattle.replies.specs.Meaning.{outcomeIs};
-ghost use Rattle.gateway.specs.Packed.{packed, LengthNumber, OpeningNumber, StepNumber};
+ghost use Rattle.prints.specs.Printed.{RunPromise, JudgedRunPromise};
+ghost use Rattle.gateway.specs.Packed.{LengthNumber, OpeningNumber, StepNumber};
 use register::Needed;
-use replies::Answer;
 use replies::Opened;
-use replies::Outcome;
 
 // The words that a register of m cells and n handlers needs; 0 where m or n is out of range.
 #[no_mangle]
@@ -40,28 +37,27 @@ fn pack(kind: u32, detail: u32) -> u64
     (kind as u64) * 4294967296 + (detail as u64)
 }
 
-// An outcome in one number.
-fn pack_outcome(outcome: Outcome) -> u64
-    ensures { λ r. ⌜ r ≡ packed (outcomeNumbers (outcomeIs outcome)) ⌝ }
-{
-    match outcome {
-        Outcome::Done => pack(0, 0),
-        Outcome::Value(value) => pack(1, value),
-        Outcome::Committed => pack(2, 0),
-        Outcome::Aborted(reason) => pack(3, replies::reason_number(reason)),
-    }
-}
-
 // Takes the step of a handler: kind · 2^32 + value or number.
 #[no_mangle]
 pub extern "C" fn zidlemowo_step(words: &mut [u32], handler: u32, code: u32, value: u32) -> u64
     ensures { λ r. ⌜ StepNumber (now (words .entry)) handler code value r (now (words .exit)) ⌝ }
 {
-    match register::step(words, handler, code, value) {
-        Answer::Reported(report) => {
-            let outcome = report.outcome;
-            pack_outcome(outcome)
-        }
-        Answer::Refused(refusal) => pack(4, replies::refusal_number(refusal)),
-    }
+    let numbers = replies::numbers_of(register::step(words, handler, code, value));
+    pack(numbers.kind, numbers.detail)
+}
+
+// Runs a schedule file with the register: everything that is printed of it, into the output as far as it fits; how long that is.
+#[no_mangle]
+pub extern "C" fn zidlemowo_run(file: &[u8], output: &mut [u8]) -> usize
+    ensures { λ r. ⌜ RunPromise (now (file .entry)) (now (output .entry)) r (now (output .exit)) ⌝ }
+{
+    prints::run(file, output)
+}
+
+// Runs a schedule file with the judge: everything that is printed of it, into the output as far as it fits; how long that is.
+#[no_mangle]
+pub extern "C" fn zidlemowo_judge(file: &[u8], output: &mut [u8]) -> usize
+    ensures { λ r. ⌜ JudgedRunPromise (now (file .entry)) (now (output .entry)) r (now (output .exit)) ⌝ }
+{
+    prints::judge(file, output)
 }

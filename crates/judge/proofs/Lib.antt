@@ -5,3 +5,4 @@ pub mod Passing
 pub mod Stepping
 pub mod Opening
 pub mod Ends
+pub mod Tight

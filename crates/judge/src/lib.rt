@@ -3,11 +3,10 @@
 mod reading;
 mod taking;
 
-ghost use mathlib.Core.Path.{_≡_};
-ghost use Rattle.ledger.specs.Entries.{ledgerLong};
 ghost use Rattle.ledger.specs.Promises.{LedgerPromise, JudgedPromise};
 ghost use Rattle.replies.specs.Meaning.{replyIs, openingIs};
 ghost use Rattle.replies.specs.Ends.{endIs};
+ghost use Rattle.judge.specs.Lengths.{NeededPromise};
 ghost use Rattle.judge.specs.Ending.{JudgedEndPromise};
 use crate::reading::is_ledger;
 use crate::reading::is_open;
@@ -20,7 +19,7 @@ use replies::Refusal;
 
 // The words that the judge needs, for any numbers of cells and handlers.
 pub fn words_needed() -> usize
-    ensures { λ r. ⌜ r ≡ ledgerLong ⌝ }
+    ensures { λ r. ⌜ NeededPromise r ⌝ }
 {
     limits::LEDGER_WORDS
 }

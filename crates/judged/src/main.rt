@@ -1,9 +1,11 @@
-// Judges the schedule file on standard input and prints the runner's format, from the judge alone. At a 65th commit the last line
-// printed is that step's, `refused 33`. A refused file prints the one line `refused N`.
-use runs::Player;
+// Judges the schedule file on standard input and prints what `prints::judge` says of it: the runner's format, from the judge alone. At
+// a 65th commit the last line printed is that step's, `refused 33`.
 
-// The judge answers, on words of its own.
+// Reads, judges and writes. One byte more than a file may have is read, so that a file that is too long is noticed.
 fn main() {
-    let mut words = [0u32; limits::LEDGER_WORDS];
-    lines::run_input(Player::Judge, &mut words);
+    let mut file = io::large_buffer();
+    let count = filters::read_file(&mut file);
+    let mut printed = filters::room();
+    let long = prints::judge(&file[..count], &mut printed);
+    filters::write_front(&printed, long);
 }

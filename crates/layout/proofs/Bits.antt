@@ -13,7 +13,7 @@ use borrow.Author.Tests.{eq-eqb, ne-eqb, eqb-true, eqb-false}
 use Rattle.rules.specs.steps.Tables.{if_then_else_, put}
 use Rattle.rules.specs.steps.Register.{noCells}
 use Rattle.rules.proofs.steps.Tables.{by, put-same, put-beyond}
-use Rattle.layout.specs.Bits.{bit, hasBit, mask}
+use Rattle.layout.specs.Bits.{bit, hasBit, mask, withBit}
 use Rattle.layout.specs.WellFormed.{NoBitFrom}
 
 -- ── One bit ───────────────────────────────────────────────────────────
@@ -132,10 +132,6 @@ pub no-bit-from : (m word : ℕ) → NoBitFrom m word ↔ (word < 2 ^ m)
 no-bit-from m word = (no-bit-small m word, small-no-bit m word)
 
 -- ── One cell more ─────────────────────────────────────────────────────
-
--- The word of the set with cell x besides.
-unfoldable pub withBit : ℕ → ℕ → ℕ
-withBit word x = if hasBit word x then word else (word + 2 ^ x)
 
 -- What is not in the set joins it by a sum.
 has-sum : (word x c : ℕ) → hasBit word x ≡ false → hasBit (word + 2 ^ x) c ≡ put (hasBit word) x true c

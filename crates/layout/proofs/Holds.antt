@@ -10,17 +10,10 @@ use lib.Seq.{drop-drop, drop-at, drop-append-add}
 use Rattle.rules.specs.steps.Register.{Register}
 use Rattle.layout.specs.Rows.{rows}
 use Rattle.layout.specs.Places.{cellLong, handlerLong, bodyLong, size, bodyOf, cellPart, handlerPart}
-use Rattle.layout.specs.View.{pourCell, pourHandler, pour, registerIn}
+use Rattle.layout.specs.View.{pourCell, pourHandler, pour, Holds, registerIn}
 use Rattle.layout.proofs.Rows.{rows-length, rows-part, rows-cut}
 use Rattle.layout.proofs.Places.{handlersStart}
 use Rattle.layout.proofs.Blocks.{poured-cell, poured-handler}
-
--- The words hold the register of m cells and n handlers, and behind it the rest.
-pub record Holds (m n : ℕ) (r : Register ℕ) (rest words : List ℕ) : Type 0 where
-  pub fits : bodyLong m n ≤ length words
-  pub cells : (c : ℕ) → c < m → cellPart m words c ≡ pourCell m (r .cells c)
-  pub handlers : (i : ℕ) → i < n → handlerPart m words i ≡ pourHandler m (r .handlers i)
-  pub beyond : drop (bodyLong m n) words ≡ rest
 
 -- The words of all cells.
 abbrev pub cellRows : ℕ → Register ℕ → List ℕ

@@ -15,14 +15,14 @@ use Rattle.rules.specs.steps.Turn.{turn}
 use Rattle.rules.proofs.steps.Bounds.{Fit, BoundedHandler, Bounded, Phased, fresh-phased, step-phased, turn-phased, step-bounded, turn-bounded, fresh-bounded}
 use Rattle.rules.proofs.steps.Confined.{Confined, turn-confined}
 use Rattle.layout.specs.Places.{cellsOf, handlersOf, bodyLong, size, bodyOf, handlerPart, numberIn, phaseIn}
-use Rattle.layout.specs.View.{wordSetting, viewCell, viewHandler, view, pourCell, pourHandler, pour, viewed, registerIn}
+use Rattle.layout.specs.View.{wordSetting, viewCell, viewHandler, view, pourCell, pourHandler, pour, viewed, registerIn, Holds}
 use Rattle.layout.specs.WellFormed.{GoodBlock, GoodBody, PhasesTo, WellFormed}
 use Rattle.layout.proofs.Bits.{mask-small, no-bit-from}
 use Rattle.layout.proofs.Rows.{below-inside}
 use Rattle.layout.proofs.Places.{handler-fits}
 use Rattle.rules.proofs.steps.Given.{range-tested}
 use Rattle.layout.proofs.Blocks.{HoldsCell, HoldsHandler, poured-cell, poured-handler}
-use Rattle.layout.proofs.Holds.{Holds, pour-holds, register-length}
+use Rattle.layout.proofs.Holds.{pour-holds, register-length}
 use Rattle.layout.proofs.ViewPour.{view-cell, view-handler, view-pour, view-confined}
 
 -- ── Bounded registers and well-formed words ───────────────────────────

@@ -10,12 +10,12 @@ use Rattle.rules.specs.steps.Tables.{put}
 use Rattle.rules.specs.steps.Register.{Cell, Handler, Register, withHandler}
 use Rattle.rules.proofs.steps.Tables.{put-map}
 use Rattle.layout.specs.Places.{cellLong, handlerLong, bodyLong, cellStart, handlerStart, cellPart, handlerPart}
-use Rattle.layout.specs.View.{pourCell, pourHandler, pour}
+use Rattle.layout.specs.View.{pourCell, pourHandler, pour, Holds}
 use Rattle.layout.proofs.Places.{handlersStart, cell-ends, cell-fits, handler-fits}
 use Rattle.layout.proofs.Blocks.{poured-cell, poured-handler}
-use Rattle.layout.proofs.Holds.{Holds, holds-is, pour-holds}
-use Rattle.layout.specs.Rows.{splice}
-use Rattle.layout.proofs.Untouched.{Untouched, part-before, part-after, drop-after, rows-changed, splice-part, splice-untouched}
+use Rattle.layout.proofs.Holds.{holds-is, pour-holds}
+use Rattle.layout.specs.Rows.{splice, Untouched}
+use Rattle.layout.proofs.Untouched.{part-before, part-after, drop-after, rows-changed, splice-part, splice-untouched}
 
 -- The register with another cell at place c.
 abbrev pub withCell : Register ℕ → ℕ → Cell ℕ → Register ℕ

@@ -6,12 +6,12 @@ use mathlib.Core.List.{List}
 use native.Mathlib.Omega.{arith}
 use lib.ListN.{length, drop}
 use Rattle.layout.specs.Places.{cellLong, handlerLong, bodyLong, cellStart, handlerStart, cellPart, handlerPart}
-use Rattle.layout.specs.View.{view, pourCell, pourHandler, holding}
+use Rattle.layout.specs.View.{view, pourCell, pourHandler, holding, Holds}
 use Rattle.layout.specs.WellFormed.{GoodBody}
 use Rattle.layout.proofs.Rows.{part-length}
 use Rattle.layout.proofs.Places.{cell-fits, handler-fits}
 use Rattle.layout.proofs.Blocks.{cell-is, handler-is, viewed-cell, viewed-handler}
-use Rattle.layout.proofs.Holds.{Holds, holds-is}
+use Rattle.layout.proofs.Holds.{holds-is}
 use Rattle.layout.proofs.ViewPour.{view-cell, view-handler}
 
 module _ (m n : ℕ) (words : List ℕ) (long : bodyLong m n ≤ length words) where

@@ -10,15 +10,8 @@ use lib.Seq.{ext-getD, getD-take, getD-drop, drop-drop, take-at, drop-at}
 use borrow.Author.Tests.{ltb-true, ltb-false}
 use Rattle.rules.specs.steps.Tables.{put}
 use Rattle.rules.proofs.steps.Tables.{by, put-each}
-use Rattle.layout.specs.Rows.{part, splice}
+use Rattle.layout.specs.Rows.{part, splice, Untouched}
 use Rattle.layout.proofs.Rows.{part-length, part-at, part-is, part-cut, rows-apart}
-
--- So many words from a place on may be others; the number of words and every other word are as before.
-pub record Untouched (from long : ℕ) (words after : List ℕ) : Type 0 where
-  pub fits : from + long ≤ length words
-  pub size : length after ≡ length words
-  pub below : (place : ℕ) → place < from → getD after place 0 ≡ getD words place 0
-  pub above : (place : ℕ) → from + long ≤ place → getD after place 0 ≡ getD words place 0
 
 module _ {from long : ℕ} {words after : List ℕ} (same : Untouched from long words after) where
   -- A part that ends before the changed one is as before.

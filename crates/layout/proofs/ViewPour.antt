@@ -7,10 +7,10 @@ use Rattle.rules.specs.steps.Register.{Register, Cell, zeros, idle, blank}
 use Rattle.rules.proofs.steps.Tables.{SameFrom}
 use Rattle.rules.proofs.steps.Confined.{ConfinedHandler, Confined, idle-confined}
 use Rattle.layout.specs.Places.{cellPart, handlerPart}
-use Rattle.layout.specs.View.{wordSetting, viewCell, viewHandler, view, pour}
+use Rattle.layout.specs.View.{wordSetting, viewCell, viewHandler, view, pour, Holds}
 use Rattle.layout.proofs.Rows.{below-inside, below-beyond, below-each, below-is}
 use Rattle.layout.proofs.Blocks.{poured-cell, poured-handler, view-cell-is, view-handler-is, viewed-confined}
-use Rattle.layout.proofs.Holds.{Holds, pour-holds}
+use Rattle.layout.proofs.Holds.{pour-holds}
 
 module _ (m n : ℕ) (words : List ℕ) where
   -- A cell below m is what its words say.

@@ -2,6 +2,7 @@
 use Prim.Native.Nat.{ℕ, zero, suc, _+_, _*_, _/_, _%_, _^_}
 use mathlib.Core.Bool.{Bool, true, false}
 use lib.Dec.{eqb}
+use Rattle.rules.specs.steps.Tables.{if_then_else_}
 
 -- A yes or no as a word.
 abbrev pub bit : Bool → ℕ
@@ -16,3 +17,7 @@ hasBit word c = eqb ((word / 2 ^ c) % 2) 1
 unfoldable pub mask : ℕ → (ℕ → Bool) → ℕ
 mask zero set = 0
 mask (suc m) set = bit (set 0) + 2 * mask m (λ c. set (suc c))
+
+-- The word of the set with cell x besides.
+unfoldable pub withBit : ℕ → ℕ → ℕ
+withBit word x = if hasBit word x then word else (word + 2 ^ x)

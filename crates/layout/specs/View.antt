@@ -1,9 +1,10 @@
 -- From words to the register that they say, and from a register to its words. A view is a whole table: beyond the register's
 -- cells and handlers it holds what a fresh register holds.
-use Prim.Native.Nat.{ℕ}
+use Prim.Native.Nat.{ℕ, _≤_, _<_}
+use mathlib.Core.Path.{_≡_}
 use mathlib.Core.Bool.{false}
 use mathlib.Core.List.{List, _∷_, _++_}
-use lib.ListN.{drop}
+use lib.ListN.{length, drop}
 use Rattle.rules.specs.steps.Codes.{plainSheet}
 use Rattle.rules.specs.steps.Register.{Setting, numbersUnder, Cell, Handler, Register, zeros, idle, blank}
 use Rattle.layout.specs.Bits.{hasBit, mask}
@@ -54,6 +55,13 @@ pour m n r = rows m (λ c. pourCell m (r .cells c)) ++ rows n (λ i. pourHandler
 -- The words with the body of a register of m cells and n handlers in front; words beyond it stay as they were.
 abbrev pub holding : List ℕ → ℕ → ℕ → Register ℕ → List ℕ
 holding body m n r = pour m n r ++ drop (bodyLong m n) body
+
+-- The words hold the register of m cells and n handlers, and behind it the rest.
+pub record Holds (m n : ℕ) (r : Register ℕ) (rest words : List ℕ) : Type 0 where
+  pub fits : bodyLong m n ≤ length words
+  pub cells : (c : ℕ) → c < m → cellPart m words c ≡ pourCell m (r .cells c)
+  pub handlers : (i : ℕ) → i < n → handlerPart m words i ≡ pourHandler m (r .handlers i)
+  pub beyond : drop (bodyLong m n) words ≡ rest
 
 -- ── The plain register: m, n, and the body ────────────────────────────
 

@@ -10,9 +10,9 @@ use lib.ListN.{length}
 use lib.Dec.{eqb}
 use borrow.Author.Tests.{eqb-true, eqb-false}
 use Rattle.rules.specs.history.History.{Commit}
-use Rattle.rules.specs.history.Past.{Stands, last, older, upTo}
+use Rattle.rules.specs.history.Past.{Stands, last, older, upTo, lastOf}
 use Rattle.rules.proofs.steps.Tables.{by}
-use Rattle.rules.proofs.history.Pasts.{withPast, upTo-beyond, upTo-new, upTo-old, lastOf, lastOf-stood, lastOf-new, lastOf-other}
+use Rattle.rules.proofs.history.Pasts.{withPast, upTo-beyond, upTo-new, upTo-old, lastOf-stood, lastOf-new, lastOf-other}
 use Rattle.ledger.specs.Entries.{commitRow, entryIn}
 use Rattle.ledger.specs.Histories.{commitOf, commitsIn}
 

@@ -10,10 +10,10 @@ use lib.Dec.{ltb}
 use borrow.Author.Tests.{ltb-true, ltb-false}
 use Rattle.rules.proofs.steps.Tables.{by}
 use Rattle.layout.specs.Bits.{hasBit, mask}
-use Rattle.layout.specs.Rows.{row, part, splice}
+use Rattle.layout.specs.Rows.{row, part, splice, Untouched}
 use Rattle.layout.proofs.Bits.{has-mask}
 use Rattle.layout.proofs.Rows.{part-length, part-at, row-length, row-at, row-first, row-behind, row-cut, row-last}
-use Rattle.layout.proofs.Untouched.{Untouched, splice-part, splice-untouched, untouched-is}
+use Rattle.layout.proofs.Untouched.{splice-part, splice-untouched, untouched-is}
 use Rattle.ledger.specs.Entries.{Entry, entryIn, pourEntry, withEntry}
 use Rattle.ledger.proofs.OneDeedMore.{SameAt}
 

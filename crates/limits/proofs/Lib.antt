@@ -1,2 +1,3 @@
 -- Laws of the range.
 pub mod Ranges
+pub mod Tight

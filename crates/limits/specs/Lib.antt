@@ -1,2 +1,3 @@
--- The numbers that contracts cite.
+-- The numbers that contracts cite, and the promise of the range.
 pub mod Limits
+pub mod Ranges

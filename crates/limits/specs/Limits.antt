@@ -21,6 +21,14 @@ mostCommits = 64
 abbrev pub mostFileBytes : ℕ
 mostFileBytes = 65535
 
+-- The longest line of an order place, in bytes.
+abbrev pub longestLine : ℕ
+longestLine = 34
+
+-- The most bytes that are printed of a file: a line for each of its bytes, and the header and each cell as two lines more.
+abbrev pub mostPrinted : ℕ
+mostPrinted = 2230434
+
 -- The rows of the judge's ledger: its head, one for each handler, and one for each commit.
 abbrev pub ledgerRows : ℕ
 ledgerRows = 81

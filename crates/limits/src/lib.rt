@@ -1,7 +1,6 @@
 // The numbers of the documents and of our layouts, each said once, and the range of a register's cells and handlers.
 // PUBLIC: nothing here has a `requires`.
-ghost use mathlib.Core.Path.{_≡_};
-ghost use Rattle.rules.specs.steps.Checks.{inRange};
+ghost use Rattle.limits.specs.Ranges.{RangePromise};
 
 // The most cells that a register has.
 pub const MOST_CELLS: u32 = 32;
@@ -20,6 +19,12 @@ pub const MOST_COMMITS: u32 = 64;
 
 // The most bytes that a schedule file has.
 pub const MOST_FILE_BYTES: usize = 65535;
+
+// The longest line of an order place, in bytes.
+pub const LONGEST_LINE: usize = 34;
+
+// The most bytes that are printed of a file: a line for each of its bytes, and the header and each cell as two lines more.
+pub const MOST_PRINTED: usize = (MOST_FILE_BYTES + 66) * LONGEST_LINE;
 
 // The words in front of a register's body: m and n.
 pub const FRONT: usize = 2;
@@ -50,7 +55,7 @@ pub const LEDGER_BEHIND: usize = LEDGER_WORDS - FRONT;
 
 // Whether m is 1 to 32 and n is 1 to 16.
 pub fn in_range(m: u32, n: u32) -> bool
-    ensures { λ r. ⌜ r ≡ inRange m n ⌝ }
+    ensures { λ r. ⌜ RangePromise m n r ⌝ }
 {
     if m < 1 {
         return false;

@@ -1,228 +1,158 @@
-// A run of the schedule file on standard input, the same whoever answers its steps: a header, a line for each order place, then each
-// cell, on standard output. A line is put together in a buffer and written by one call.
-// PUBLIC: nothing that is offered has a `requires`. Nothing is answered and nothing lent, so there is no promise beside that each
-// function ends.
-ghost use Prim.Native.Nat.{_≤_};
-ghost use lib.ListN.{length};
-use libc::STDIN_FILENO;
-use libc::STDOUT_FILENO;
+// The lines of a run: what an order place shows, and the bytes of each line, put into a lent buffer.
+// Internal: called by our crates alone, which show what each function requires. A place's line fits in `limits::LONGEST_LINE` bytes.
+ghost use Prim.Native.Nat.{_+_, _*_, _≤_};
+ghost use Rattle.limits.specs.Limits.{mostFileBytes, longestLine};
+ghost use Rattle.replies.specs.Meaning.{outcomeIs, refusalIs, replyIs};
+ghost use Rattle.replies.specs.Ends.{endIs};
+ghost use Rattle.text.specs.Lies.{Puts, farthest};
+ghost use Rattle.lines.specs.Lines.{lineIs};
+ghost use Rattle.lines.specs.Texts.{frontText, outcomeText, refusalText, replyText, placeText, headerText, endText, refusedText};
 use replies::Answer;
 use replies::End;
-use replies::Opened;
 use replies::Outcome;
 use replies::Refusal;
-use runs::Player;
-use runs::Shown;
-use schedule::Admitted;
+use text::put_number;
+use text::put_text;
 
-// The smaller of two numbers.
-fn smaller(a: usize, b: usize) -> usize
-    ensures { λ r. ⌜ (r ≤ a) × (r ≤ b) ⌝ }
-{
-    if a < b { a } else { b }
+// What a place shows: nothing where the order has no such place, a refusal where no step was taken, or the answer to a step.
+pub enum Shown {
+    Nothing,
+    NoStep {
+        handler: u8,
+        refusal: Refusal,
+    },
+    Asked {
+        handler: u8,
+        code: u8,
+        answer: Answer,
+    },
 }
 
-// Puts a text behind so many bytes of a line, as far as there is room; how many bytes there are then.
-fn text(line: &mut [u8], long: usize, bytes: &[u8]) -> usize
-    requires { ⌜ long ≤ length (now line) ⌝ }
-    ensures { λ r. ⌜ r ≤ length (now (line .exit)) ⌝ }
+// Puts a refusal at a place of a buffer.
+fn put_refusal(buffer: &mut [u8], at: usize, refusal: Refusal) -> usize
+    requires { ⌜ at ≤ farthest + 64 ⌝ }
+    ensures { λ r. ⌜ Puts (refusalText (refusalIs refusal)) at r (now (buffer .entry)) (now (buffer .exit)) ⌝ }
+    ensures { λ r. ⌜ r ≤ at + 18 ⌝ }
 {
-    let count = smaller(bytes.len(), line.len() - long);
-    for k in 0..count {
-        line[long + k] = bytes[k];
-    }
-    long + count
+    let named = put_text(buffer, at, b"refused ");
+    put_number(buffer, named, replies::refusal_number(refusal))
 }
 
-// Puts a number behind so many bytes of a line.
-fn number(line: &mut [u8], long: usize, n: u64) -> usize
-    requires { ⌜ long ≤ length (now line) ⌝ }
-    ensures { λ r. ⌜ r ≤ length (now (line .exit)) ⌝ }
-{
-    let mut digits = [0u8; 20];
-    let count = io::decimal(n, &mut digits);
-    text(line, long, &digits[..count])
-}
-
-// Writes a line and its end.
-fn write_line(line: &mut [u8], long: usize)
-    requires { ⌜ long ≤ length (now line) ⌝ }
-{
-    let end = text(line, long, b"\n");
-    io::write_all(STDOUT_FILENO, &line[..end]);
-}
-
-// Puts a refusal behind so many bytes of a line.
-fn refused(line: &mut [u8], long: usize, refusal: Refusal) -> usize
-    requires { ⌜ long ≤ length (now line) ⌝ }
-    ensures { λ r. ⌜ r ≤ length (now (line .exit)) ⌝ }
-{
-    let told = text(line, long, b"refused ");
-    number(line, told, replies::refusal_number(refusal) as u64)
-}
-
-// Puts what a step came to behind so many bytes of a line.
-fn outcome(line: &mut [u8], long: usize, outcome: Outcome) -> usize
-    requires { ⌜ long ≤ length (now line) ⌝ }
-    ensures { λ r. ⌜ r ≤ length (now (line .exit)) ⌝ }
+// Puts what a step came to.
+fn put_outcome(buffer: &mut [u8], at: usize, outcome: Outcome) -> usize
+    requires { ⌜ at ≤ farthest + 64 ⌝ }
+    ensures { λ r. ⌜ Puts (outcomeText (outcomeIs outcome)) at r (now (buffer .entry)) (now (buffer .exit)) ⌝ }
+    ensures { λ r. ⌜ r ≤ at + 18 ⌝ }
 {
     match outcome {
-        Outcome::Done => text(line, long, b"ok"),
+        Outcome::Done => put_text(buffer, at, b"ok"),
         Outcome::Value(value) => {
-            let told = text(line, long, b"value ");
-            number(line, told, value as u64)
+            let named = put_text(buffer, at, b"value ");
+            put_number(buffer, named, value)
         }
-        Outcome::Committed => text(line, long, b"commit"),
+        Outcome::Committed => put_text(buffer, at, b"commit"),
         Outcome::Aborted(reason) => {
-            let told = text(line, long, b"abort ");
-            number(line, told, replies::reason_number(reason) as u64)
+            let named = put_text(buffer, at, b"abort ");
+            put_number(buffer, named, replies::reason_number(reason))
         }
     }
 }
 
-// Puts the refusal of an answer that is one behind so many bytes of a line.
-fn refusal_of(line: &mut [u8], long: usize, answer: Answer) -> usize
-    requires { ⌜ long ≤ length (now line) ⌝ }
-    ensures { λ r. ⌜ r ≤ length (now (line .exit)) ⌝ }
-{
-    match answer {
-        Answer::Refused(refusal) => refused(line, long, refusal),
-        Answer::Reported(_) => long,
-    }
-}
-
-// Puts a step's answer, its report or the refusal, behind so many bytes of a line.
-fn answered(line: &mut [u8], long: usize, answer: Answer) -> usize
-    requires { ⌜ long ≤ length (now line) ⌝ }
-    ensures { λ r. ⌜ r ≤ length (now (line .exit)) ⌝ }
+// Puts the answer to a step: what the report says that it came to, or else the refusal.
+fn put_answer(buffer: &mut [u8], at: usize, answer: Answer) -> usize
+    requires { ⌜ at ≤ farthest + 64 ⌝ }
+    ensures { λ r. ⌜ Puts (replyText (replyIs answer)) at r (now (buffer .entry)) (now (buffer .exit)) ⌝ }
+    ensures { λ r. ⌜ r ≤ at + 18 ⌝ }
 {
     let Answer::Reported(report) = answer else {
-        return refusal_of(line, long, answer);
+        let numbers = replies::numbers_of(answer);
+        let named = put_text(buffer, at, b"refused ");
+        return put_number(buffer, named, numbers.detail);
     };
-    let came = report.outcome;
-    outcome(line, long, came)
+    let outcome = report.outcome;
+    put_outcome(buffer, at, outcome)
 }
 
-// The start of a line: place and handler.
-fn start(line: &mut [u8], place: usize, handler: u32) -> usize
-    ensures { λ r. ⌜ r ≤ length (now (line .exit)) ⌝ }
+// Puts the front of a place's line: the place and the handler.
+fn put_start(buffer: &mut [u8], at: usize, place: usize, handler: u8) -> usize
+    requires { ⌜ (at ≤ farthest) × (place ≤ mostFileBytes) ⌝ }
+    ensures { λ r. ⌜ Puts (frontText place handler) at r (now (buffer .entry)) (now (buffer .exit)) ⌝ }
+    ensures { λ r. ⌜ r ≤ at + 10 ⌝ }
 {
-    let placed = number(line, 0, place as u64);
-    let apart = text(line, placed, b" ");
-    let handled = number(line, apart, handler as u64);
-    text(line, handled, b" ")
+    let placed = put_number(buffer, at, place as u32);
+    let apart = put_text(buffer, placed, b" ");
+    let named = put_number(buffer, apart, handler as u32);
+    put_text(buffer, named, b" ")
 }
 
-// The one line of a refused file.
-fn print_refused(refusal: Refusal) {
-    let mut space = [0u8; 128];
-    let line: &mut [u8] = &mut space;
-    let end = refused(line, 0, refusal);
-    write_line(line, end);
-}
-
-// The header.
-fn print_header(handlers: u32, cells: u32) {
-    let mut space = [0u8; 128];
-    let line: &mut [u8] = &mut space;
-    let named = text(line, 0, b"handlers ");
-    let counted = number(line, named, handlers as u64);
-    let besides = text(line, counted, b" cells ");
-    let end = number(line, besides, cells as u64);
-    write_line(line, end);
-}
-
-// The line of an order place, if it shows one.
-fn print_place(place: usize, shown: Shown) {
-    let mut space = [0u8; 128];
-    let line: &mut [u8] = &mut space;
+// Puts the line of an order place, if it shows one.
+pub fn put_place(buffer: &mut [u8], at: usize, place: usize, shown: Shown) -> usize
+    requires { ⌜ (at ≤ farthest) × (place ≤ mostFileBytes) ⌝ }
+    ensures { λ r. ⌜ Puts (placeText (lineIs place shown)) at r (now (buffer .entry)) (now (buffer .exit)) ⌝ }
+    ensures { λ r. ⌜ r ≤ at + longestLine ⌝ }
+{
     match shown {
-        Shown::Nothing => {}
+        Shown::Nothing => at,
         Shown::NoStep { handler, refusal } => {
-            let started = start(line, place, handler);
-            let without = text(line, started, b"- ");
-            let end = refused(line, without, refusal);
-            write_line(line, end);
+            let started = put_start(buffer, at, place, handler);
+            let without = put_text(buffer, started, b"-");
+            let apart = put_text(buffer, without, b" ");
+            let told = put_refusal(buffer, apart, refusal);
+            put_text(buffer, told, b"\n")
         }
         Shown::Asked {
             handler,
             code,
             answer,
         } => {
-            let started = start(line, place, handler);
-            let coded = number(line, started, code as u64);
-            let apart = text(line, coded, b" ");
-            let end = answered(line, apart, answer);
-            write_line(line, end);
+            let started = put_start(buffer, at, place, handler);
+            let coded = put_number(buffer, started, code as u32);
+            let apart = put_text(buffer, coded, b" ");
+            let told = put_answer(buffer, apart, answer);
+            put_text(buffer, told, b"\n")
         }
     }
 }
 
-// The line of a cell at the end.
-fn print_cell(c: u32, end: End) {
-    let mut space = [0u8; 128];
-    let line: &mut [u8] = &mut space;
+// Puts the header.
+pub fn put_header(buffer: &mut [u8], at: usize, handlers: u32, cells: u32) -> usize
+    requires { ⌜ at ≤ farthest ⌝ }
+    ensures { λ r. ⌜ Puts (headerText handlers cells) at r (now (buffer .entry)) (now (buffer .exit)) ⌝ }
+    ensures { λ r. ⌜ r ≤ at + 2 * longestLine ⌝ }
+{
+    let named = put_text(buffer, at, b"handlers ");
+    let counted = put_number(buffer, named, handlers);
+    let besides = put_text(buffer, counted, b" cells ");
+    let all = put_number(buffer, besides, cells);
+    put_text(buffer, all, b"\n")
+}
+
+// Puts the line of a cell at the end, if there is such a cell.
+pub fn put_cell(buffer: &mut [u8], at: usize, c: u32, end: End) -> usize
+    requires { ⌜ at ≤ farthest ⌝ }
+    ensures { λ r. ⌜ Puts (endText c (endIs end)) at r (now (buffer .entry)) (now (buffer .exit)) ⌝ }
+    ensures { λ r. ⌜ r ≤ at + 2 * longestLine ⌝ }
+{
     match end {
-        End::Cell { value, number: own } => {
-            let named = text(line, 0, b"cell ");
-            let counted = number(line, named, c as u64);
-            let valued = text(line, counted, b" value ");
-            let told = number(line, valued, value as u64);
-            let numbered = text(line, told, b" number ");
-            let all = number(line, numbered, own as u64);
-            write_line(line, all);
+        End::Cell { value, number } => {
+            let named = put_text(buffer, at, b"cell ");
+            let counted = put_number(buffer, named, c);
+            let besides = put_text(buffer, counted, b" value ");
+            let valued = put_number(buffer, besides, value);
+            let behind = put_text(buffer, valued, b" number ");
+            let all = put_number(buffer, behind, number);
+            put_text(buffer, all, b"\n")
         }
-        End::Missing => {}
+        End::Missing => at,
     }
 }
 
-// Each order place, one after another, until the run stops; whether it came to the end. There are fewer places than the file has
-// bytes.
-fn show_places(player: Player, file: &[u8], words: &mut [u32]) -> bool {
-    let mut cursors = schedule::at_start();
-    for place in 0..file.len() {
-        let placed = runs::play_place(player, file, cursors, place, words);
-        cursors = placed.cursors;
-        let shown = placed.shown;
-        print_place(place, shown);
-        if runs::stops_at(shown) {
-            return false;
-        }
-    }
-    true
-}
-
-// Each cell with its value and its own number.
-fn show_cells(player: Player, words: &[u32], cells: u32) {
-    for c in 0..cells {
-        let end = runs::cell_end(player, words, c);
-        print_cell(c, end);
-    }
-}
-
-// The run of a file that is sound.
-fn show_run(player: Player, file: &[u8], words: &mut [u32], handlers: u32, cells: u32) {
-    let Opened::Ready = runs::open(player, words, cells, handlers) else {
-        return;
-    };
-    print_header(handlers, cells);
-    if show_places(player, file, words) {
-        show_cells(player, words, cells);
-    }
-}
-
-// Runs a file with a player; a refused file is one line.
-fn run_file(player: Player, file: &[u8], words: &mut [u32]) {
-    match schedule::admit_file(file) {
-        Admitted::Sound { handlers, cells } => show_run(player, file, words, handlers, cells),
-        Admitted::Rejected(refusal) => print_refused(refusal),
-    }
-}
-
-// Runs the file on standard input with a player, on words that are lent to it. One byte more than a file may have is read, so that a
-// file that is too long is noticed.
-pub fn run_input(player: Player, words: &mut [u32]) {
-    let mut buffer = io::large_buffer();
-    let count = io::read_full(STDIN_FILENO, &mut buffer);
-    run_file(player, &buffer[..count], words);
+// Puts the one line of a refused file.
+pub fn put_refused(buffer: &mut [u8], at: usize, refusal: Refusal) -> usize
+    requires { ⌜ at ≤ farthest ⌝ }
+    ensures { λ r. ⌜ Puts (refusedText (refusalIs refusal)) at r (now (buffer .entry)) (now (buffer .exit)) ⌝ }
+    ensures { λ r. ⌜ r ≤ at + longestLine ⌝ }
+{
+    let told = put_refusal(buffer, at, refusal);
+    put_text(buffer, told, b"\n")
 }

@@ -5,7 +5,7 @@ use mathlib.Core.List.{List}
 use lib.ListN.{length, getD, set}
 use Rattle.rules.specs.steps.Register.{zeros}
 use Rattle.layout.specs.Places.{rowLong, rowStart, writtenAt, sourceAt, copyAt}
-use Rattle.layout.proofs.Bits.{withBit}
+use Rattle.layout.specs.Bits.{withBit}
 use Rattle.words.specs.Rows.{Changed}
 use Rattle.words.proofs.Changes.{changed-at}
 use Rattle.ledger.specs.Entries.{entryIn, withEntry}

@@ -8,9 +8,9 @@ use lib.ListN.{length, getD, set, length-set}
 use lib.Seq.{getD-set-same, getD-set-other}
 use Rattle.rules.specs.steps.Register.{zeros}
 use Rattle.rules.proofs.steps.Tables.{put-each}
-use Rattle.layout.specs.Bits.{mask}
-use Rattle.layout.proofs.Bits.{withBit, mask-none, mask-has, mask-with}
-use Rattle.layout.proofs.Untouched.{Untouched}
+use Rattle.layout.specs.Bits.{mask, withBit}
+use Rattle.layout.proofs.Bits.{mask-none, mask-has, mask-with}
+use Rattle.layout.specs.Rows.{Untouched}
 use Rattle.words.specs.Rows.{Changed}
 use Rattle.ledger.specs.Entries.{Entry, entryIn, withEntry, commitsNoted, handlerRow, commitRow}
 use Rattle.ledger.specs.Noting.{emptyEntry, readEntry, writtenEntry, committedEntry, noteCommitRow}

@@ -4,9 +4,8 @@ use native.Mathlib.Numerals.{add-one}
 use mathlib.Core.Path.{_≡_, sym, _∙_}
 use mathlib.Core.Bool.{true}
 use mathlib.Core.List.{List}
-use Rattle.rules.specs.history.Past.{upTo}
+use Rattle.rules.specs.history.Past.{upTo, lastOf}
 use Rattle.rules.proofs.steps.Tables.{both-ways}
-use Rattle.rules.proofs.history.Pasts.{lastOf}
 use Rattle.ledger.specs.Entries.{Entry, entryIn, commitRow}
 use Rattle.ledger.specs.Histories.{deedsOf, commitsIn}
 use Rattle.ledger.proofs.Commits.{upTo-first, upTo-opening}

@@ -9,8 +9,8 @@ use mathlib.Core.List.{List}
 use lib.Dec.{eqb, eqb·zero-suc, eqb·suc-suc}
 use Rattle.rules.specs.steps.Tables.{put}
 use Rattle.rules.proofs.steps.Tables.{by, both-ways, either, or-absorb}
-use Rattle.layout.specs.Bits.{hasBit}
-use Rattle.layout.proofs.Bits.{withBit, has-with, no-bit-from}
+use Rattle.layout.specs.Bits.{hasBit, withBit}
+use Rattle.layout.proofs.Bits.{has-with, no-bit-from}
 use Rattle.past.specs.Marks.{marked, only, Adds, Closed}
 
 -- ── Marks ─────────────────────────────────────────────────────────────

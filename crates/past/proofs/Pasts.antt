@@ -9,9 +9,9 @@ use mathlib.Core.List.{List, []}
 use lib.Dec.{leb}
 use borrow.Author.Tests.{leb-true, leb-false}
 use Rattle.rules.specs.history.History.{Deed, Commit}
-use Rattle.rules.specs.history.Past.{InPast, before, UpTo, itself, behind, inPast, upTo}
+use Rattle.rules.specs.history.Past.{InPast, before, UpTo, itself, behind, inPast, upTo, lastOf}
 use Rattle.rules.proofs.steps.Tables.{by, both-ways}
-use Rattle.rules.proofs.history.Pasts.{past-none, past-look, past-set, lastOf, past-last}
+use Rattle.rules.proofs.history.Pasts.{past-none, past-look, past-set, past-last}
 use Rattle.rules.proofs.history.Computed.{past-is, upTo-is}
 use Rattle.ledger.specs.Entries.{Entry, entryIn, commitRow}
 use Rattle.ledger.specs.Histories.{lookOf, setOf, deedsOf, commitsIn}

@@ -3,7 +3,7 @@
 ghost use mathlib.Core.Path.{_≡_};
 ghost use Prim.Native.Nat.{ℕ, _≤_, _<_};
 ghost use lib.ListN.{length};
-ghost use Rattle.rules.proofs.history.Pasts.{lastOf};
+ghost use Rattle.rules.specs.history.Past.{lastOf};
 ghost use Rattle.limits.specs.Limits.{mostCells, ledgerRows};
 ghost use Rattle.ledger.specs.Entries.{ledgerLong, mostCommits, commitRow, entryIn};
 ghost use Rattle.ledger.specs.Histories.{commitsIn};

@@ -16,7 +16,8 @@ use Rattle.rules.specs.steps.Register.{fresh}
 use Rattle.rules.specs.steps.Checks.{firstHit, inRange, openingChecks}
 use Rattle.rules.specs.steps.Given.{Free}
 use Rattle.rules.proofs.steps.Given.{none-holds, Verdict, verdict}
-use Rattle.rules.proofs.steps.Turns.{refusedTurn, takenTurn, given-turn, free-turn}
+use Rattle.rules.specs.steps.Turn.{takenTurn, refusedTurn}
+use Rattle.rules.proofs.steps.Turns.{given-turn, free-turn}
 use Rattle.rules.proofs.steps.Confined.{Confined, step-confined, fresh-confined}
 use Rattle.layout.specs.Places.{cellsOf, handlersOf, size, bodyOf}
 use Rattle.layout.specs.View.{wordSetting, view, viewed, registerIn}
@@ -26,21 +27,7 @@ use Rattle.layout.proofs.Holds.{register-length, register-beyond}
 use Rattle.layout.proofs.ViewPour.{view-pour, view-confined}
 use Rattle.layout.proofs.Kept.{Keeps, fresh-well-formed, step-kept}
 use Rattle.promises.specs.Opening.{openingRefusal, openingReply, openingWords, OpeningPromise}
-use Rattle.promises.specs.Stepping.{askedOf, resultOf, turnOf, stepWords, StepPromise}
-
--- A step that is refused: the words are as they were.
-pub record Stopped (words : List ℕ) (handler code value : ℕ) (after : List ℕ) : Type 0 where
-  pub refusal : Refusal
-  pub turn : turnOf words handler code value ≡ refusedTurn (viewed words) refusal
-  pub unchanged : after ≡ words
-
--- A step that is taken: the words were well formed, and the rules' register stands in front of them.
-pub record Taken (words : List ℕ) (handler code value : ℕ) (after : List ℕ) : Type 0 where
-  pub what : Step
-  pub free : Free (askedOf words handler code) what
-  pub turn : turnOf words handler code value
-      ≡ takenTurn (wordSetting (cellsOf words)) (viewed words) handler code value what
-  pub holds : after ≡ registerIn words (cellsOf words) (handlersOf words) (resultOf words handler what value .after)
+use Rattle.promises.specs.Stepping.{askedOf, resultOf, turnOf, stepWords, StepPromise, Stopped, Taken}
 
 module _ {words : List ℕ} {handler code value : ℕ} {reply : Reply ℕ} {after : List ℕ} (p : StepPromise words handler code value reply after) where
   -- A step is refused or taken.

@@ -12,20 +12,19 @@ use Rattle.rules.specs.steps.Register.{Handler, Register, withHandler}
 use Rattle.rules.proofs.steps.Tables.{put-here, put-other, by}
 use Rattle.rules.proofs.steps.Properties.{OneHandler, changes-one}
 use Rattle.layout.specs.Places.{cellsOf, handlersOf, bodyLong, bodyOf, handlerStart, handlerLong}
-use Rattle.layout.specs.View.{wordSetting, pourHandler, viewed, registerIn}
+use Rattle.layout.specs.View.{wordSetting, pourHandler, viewed, registerIn, Holds}
 use Rattle.layout.proofs.Tested.{tested}
 use Rattle.layout.proofs.PourView.{well-holds}
-use Rattle.layout.proofs.Holds.{Holds, holds-is}
+use Rattle.layout.proofs.Holds.{holds-is}
 use Rattle.layout.proofs.Places.{handler-fits}
 use Rattle.layout.proofs.Blocks.{poured-handler}
 use Rattle.layout.proofs.OneHandler.{block-put}
-use Rattle.layout.specs.Rows.{splice}
-use Rattle.layout.proofs.Untouched.{Untouched, splice-untouched}
+use Rattle.layout.specs.Rows.{splice, Untouched}
+use Rattle.layout.proofs.Untouched.{splice-untouched}
 use Rattle.layout.proofs.Fronts.{splice-behind, counts-front}
 use Rattle.layout.specs.WellFormed.{WellFormed}
 use Rattle.layout.proofs.Kept.{well-long}
-use Rattle.promises.specs.Stepping.{resultOf}
-use Rattle.promises.proofs.Leaves.{Taken}
+use Rattle.promises.specs.Stepping.{resultOf, Taken}
 
 -- A register that is another but for handler i is that other with its handler i.
 one-handler-is : {W : Type 0} {r q : Register W} {i : ℕ} → OneHandler r i q → q ≡ withHandler r i (q .handlers i)

@@ -113,14 +113,16 @@ goes-on {m} {n} {done} ran [] = subst (Ran m n) (sym (append-nil done)) (record 
 goes-on {m} {n} {done} ran (a ∷ asks) = subst (Ran m n) (append-assoc done (a ∷ []) asks)
     (goes-on (stepped a ran (record { replied = refl; left = refl })) asks)
 
+-- The checks of an opening say nothing where m and n are in range, and there are as many words as are needed.
+pub checks-pass : (m n long need : ℕ) → InRange m n → need ≤ long → firstHit (openingChecks m n long need) ≡ none
+unfolding openingChecks firstHit
+checks-pass m n long need ranged fits = rw (range-tested m n .1 ranged, le-ltb long need fits)
+
 -- Words that are long enough, with m and n in range, are opened and ready.
 pub opens : (words : List ℕ) (m n : ℕ) → InRange m n → size m n ≤ length words
     → OpeningPromise words m n ready (registerIn words m n (fresh (wordSetting m)))
-unfolding openingRefusal openingChecks firstHit openingReply openingWords
-opens words m n ranged fits = record { replied = rw passes; left = rw passes }
-  where
-    passes : openingRefusal words m n ≡ none
-    passes = rw (range-tested m n .1 ranged, le-ltb (length words) (size m n) fits)
+unfolding openingRefusal openingReply openingWords
+opens words m n ranged fits = let passes = checks-pass m n (length words) (size m n) ranged fits in record { replied = rw passes; left = rw passes }
 
 -- So every list of steps has a run, for all m and n in range and all words that are long enough.
 pub every-run : (words : List ℕ) (m n : ℕ) → InRange m n → size m n ≤ length words → (asks : List (Ask ℕ)) → Ran m n asks

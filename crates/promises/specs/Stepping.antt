@@ -1,13 +1,15 @@
 -- What a step promises, for all words, handlers, codes and values: its reply, and every word afterwards.
 use Prim.Native.Nat.{ℕ}
+use mathlib.Core.Path.{_≡_}
 use mathlib.Core.List.{List}
 use Rattle.rules.specs.Promise.{Due, Promise}
-use Rattle.rules.specs.steps.Replies.{Reply, reported}
+use Rattle.rules.specs.steps.Replies.{Refusal, Reply, reported}
 use Rattle.rules.specs.steps.Register.{Register}
 use Rattle.rules.specs.steps.Codes.{Step}
 use Rattle.rules.specs.steps.Checks.{Asked}
+use Rattle.rules.specs.steps.Given.{Free}
 use Rattle.rules.specs.steps.Figure.{Result, step}
-use Rattle.rules.specs.steps.Turn.{Turn, asked, turn}
+use Rattle.rules.specs.steps.Turn.{Turn, takenTurn, refusedTurn, asked, turn}
 use Rattle.layout.specs.Places.{cellsOf, handlersOf}
 use Rattle.layout.specs.View.{wordSetting, viewed, registerIn}
 use Rattle.layout.specs.WellFormed.{isWellFormed}
@@ -48,3 +50,19 @@ stepping call =
 abbrev pub StepPromise : List ℕ → ℕ → ℕ → ℕ → Reply ℕ → List ℕ → Type 0
 StepPromise words handler code value reply after =
     Promise stepping (record { words = words; handler = handler; code = code; value = value }) reply after
+
+-- ── Refused or taken ──────────────────────────────────────────────────
+
+-- A step that is refused: the words are as they were.
+pub record Stopped (words : List ℕ) (handler code value : ℕ) (after : List ℕ) : Type 0 where
+  pub refusal : Refusal
+  pub turn : turnOf words handler code value ≡ refusedTurn (viewed words) refusal
+  pub unchanged : after ≡ words
+
+-- A step that is taken: the words were well formed, and the rules' register stands in front of them.
+pub record Taken (words : List ℕ) (handler code value : ℕ) (after : List ℕ) : Type 0 where
+  pub what : Step
+  pub free : Free (askedOf words handler code) what
+  pub turn : turnOf words handler code value
+      ≡ takenTurn (wordSetting (cellsOf words)) (viewed words) handler code value what
+  pub holds : after ≡ registerIn words (cellsOf words) (handlersOf words) (resultOf words handler what value .after)

@@ -12,13 +12,13 @@ use Rattle.rules.specs.steps.Register.{zeros, idle, blank, fresh}
 use Rattle.rules.specs.steps.Checks.{firstHit, inRange, openingChecks}
 use Rattle.layout.specs.Rows.{part}
 use Rattle.layout.specs.Places.{size, bodyLong, bodyOf, cellLong, handlerLong, cellStart, handlerStart, cellPart, handlerPart}
-use Rattle.layout.specs.View.{wordSetting}
+use Rattle.layout.specs.View.{wordSetting, Holds}
 use Rattle.layout.proofs.Bits.{mask-none}
 use Rattle.layout.proofs.Rows.{part-length, part-at}
 use Rattle.layout.proofs.Untouched.{drop-after}
 use Rattle.layout.proofs.Places.{cell-fits, handler-fits}
 use Rattle.layout.proofs.Blocks.{HoldsCell, HoldsHandler, cell-is, handler-is}
-use Rattle.layout.proofs.Holds.{Holds, holds-is}
+use Rattle.layout.proofs.Holds.{holds-is}
 use Rattle.promises.specs.Opening.{openingRefusal, openingReply, openingWords, OpeningPromise}
 use Rattle.words.specs.Rows.{Changed}
 

@@ -1,3 +1,4 @@
--- What the replies of this crate mean, and what is shown of a cell.
+-- What the replies of this crate mean, their numbers, and what is shown of a cell.
 pub mod Meaning
+pub mod Numbers
 pub mod Ends

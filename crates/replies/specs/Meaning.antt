@@ -11,6 +11,7 @@ use Rattle.replies.specs.declared.Refusal.the-variants.{NotWellFormed, N
 use Rattle.replies.specs.declared.Refusal.the-variants.{OutOfRange, TooShort, BadFile, UsedUp, TooManyCommits}
 use Rattle.replies.specs.declared.Answer.{Answer}
 use Rattle.replies.specs.declared.Answer.the-variants.{Reported, Refused}
+use Rattle.replies.specs.declared.Numbers.{Numbers}
 use Rattle.replies.specs.declared.Opened.{Opened}
 use Rattle.replies.specs.declared.Opened.the-variants.{Ready, Rejected}
 
@@ -50,3 +51,7 @@ replyIs (Refused refusal) = Rules.Reply.refused (refusalIs refusal)
 abbrev pub openingIs : Opened → Rules.Opening
 openingIs Ready = Rules.ready
 openingIs (Rejected refusal) = Rules.Opening.refused (refusalIs refusal)
+
+-- The rules' numbers of an answer.
+abbrev pub numbersAre : Numbers → Rules.Numbers
+numbersAre numbers = record { kind = numbers .kind; detail = numbers .detail }

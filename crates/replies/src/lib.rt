@@ -1,8 +1,9 @@
 // The replies of a register, as its callers see them: a report with an outcome with a reason, or a refusal; their numbers; and what is
-// shown of a cell at the end.
+// shown of a cell at the end. PUBLIC: nothing here has a `requires`.
 ghost use mathlib.Core.Path.{_≡_};
-ghost use Rattle.rules.specs.steps.Replies.{reasonNumber, refusalNumber};
-ghost use Rattle.replies.specs.Meaning.{reasonIs, refusalIs};
+ghost use Rattle.rules.specs.steps.Replies.{outcomeNumbers};
+ghost use Rattle.replies.specs.Meaning.{outcomeIs, replyIs, numbersAre};
+ghost use Rattle.replies.specs.Numbers.{ReasonPromise, RefusalPromise, NumbersPromise};
 
 // Why a transaction was aborted.
 pub enum Reason {
@@ -53,6 +54,12 @@ pub enum Opened {
     Rejected(Refusal),
 }
 
+// An answer in numbers: its kind (0 ok, 1 value, 2 commit, 3 abort, 4 refused), and its value or number, 0 where there is none.
+pub struct Numbers {
+    pub kind: u32,
+    pub detail: u32,
+}
+
 // What is shown of a cell at the end, if there is such a cell.
 pub enum End {
     Cell { value: u32, number: u32 },
@@ -61,7 +68,7 @@ pub enum End {
 
 // The number of a reason.
 pub fn reason_number(reason: Reason) -> u32
-    ensures { λ r. ⌜ r ≡ reasonNumber (reasonIs reason) ⌝ }
+    ensures { λ r. ⌜ ReasonPromise reason r ⌝ }
 {
     match reason {
         Reason::Torn => 1,
@@ -72,7 +79,7 @@ pub fn reason_number(reason: Reason) -> u32
 
 // The number of a refusal.
 pub fn refusal_number(refusal: Refusal) -> u32
-    ensures { λ r. ⌜ r ≡ refusalNumber (refusalIs refusal) ⌝ }
+    ensures { λ r. ⌜ RefusalPromise refusal r ⌝ }
 {
     match refusal {
         Refusal::NotWellFormed => 10,
@@ -86,5 +93,39 @@ pub fn refusal_number(refusal: Refusal) -> u32
         Refusal::BadFile => 30,
         Refusal::UsedUp => 32,
         Refusal::TooManyCommits => 33,
+    }
+}
+
+// An outcome in numbers.
+fn outcome_numbers(outcome: Outcome) -> Numbers
+    ensures { λ r. ⌜ numbersAre r ≡ outcomeNumbers (outcomeIs outcome) ⌝ }
+{
+    match outcome {
+        Outcome::Done => Numbers { kind: 0, detail: 0 },
+        Outcome::Value(value) => Numbers {
+            kind: 1,
+            detail: value,
+        },
+        Outcome::Committed => Numbers { kind: 2, detail: 0 },
+        Outcome::Aborted(reason) => Numbers {
+            kind: 3,
+            detail: reason_number(reason),
+        },
+    }
+}
+
+// The answer to a step in numbers.
+pub fn numbers_of(answer: Answer) -> Numbers
+    ensures { λ r. ⌜ NumbersPromise (replyIs answer) (numbersAre r) ⌝ }
+{
+    match answer {
+        Answer::Reported(report) => {
+            let outcome = report.outcome;
+            outcome_numbers(outcome)
+        }
+        Answer::Refused(refusal) => Numbers {
+            kind: 4,
+            detail: refusal_number(refusal),
+        },
     }
 }

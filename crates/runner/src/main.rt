@@ -1,9 +1,11 @@
-// Runs the schedule file on standard input: a header, a line for each order place, then each cell. A refused file prints the one
-// line `refused N`.
-use runs::Player;
+// Runs the schedule file on standard input and prints what `prints::run` says of it: a header, a line for each order place, then each
+// cell, or a refused file's one line.
 
-// The register answers, on words that are enough for every file.
+// Reads, runs and writes. One byte more than a file may have is read, so that a file that is too long is noticed.
 fn main() {
-    let mut words = [0u32; limits::REGISTER_WORDS];
-    lines::run_input(Player::Register, &mut words);
+    let mut file = io::large_buffer();
+    let count = filters::read_file(&mut file);
+    let mut printed = filters::room();
+    let long = prints::run(&file[..count], &mut printed);
+    filters::write_front(&printed, long);
 }

@@ -9,9 +9,9 @@ use Rattle.replies.specs.declared.Answer.the-variants.{Reported, Refused}
 use Rattle.replies.specs.declared.Refusal.{Refusal}
 use Rattle.replies.specs.declared.Refusal.the-variants.{NotWellFormed}
 use Rattle.replies.proofs.Apart.{answerBack, answer-same}
-use Rattle.runs.specs.declared.Shown.{Shown}
-use Rattle.runs.specs.declared.Shown.the-variants.{Nothing, NoStep, Asked}
-use Rattle.runs.specs.Lines.{Line, lineIs}
+use Rattle.lines.specs.declared.Shown.{Shown}
+use Rattle.lines.specs.declared.Shown.the-variants.{Nothing, NoStep, Asked}
+use Rattle.lines.specs.Lines.{Line, lineIs}
 use Rattle.runs.specs.Stopping.{stopsAt, stopsShown}
 
 -- The refusal of an answer; any other where it is none.

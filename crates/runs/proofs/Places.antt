@@ -25,7 +25,7 @@ use Rattle.promises.proofs.Leaves.{step-keeps, step-says}
 use Rattle.schedule.specs.Sound.{handlersIn, cellsIn, scriptIn}
 use Rattle.schedule.specs.Scripts.{ScriptStep, valueLong, firstStep, stepsBehind, stepsOf}
 use Rattle.schedule.specs.Taking.{Cursors, cursorOf, taken, leftOf, isSpoilt, leftChecks, placeChecks, answered, namedNext, cursorsAfter}
-use Rattle.runs.specs.Lines.{stepLine}
+use Rattle.lines.specs.Lines.{stepLine}
 use Rattle.runs.specs.ByRules.{RunState, nextAsked, ordered}
 use Rattle.runs.specs.Players.{theRegister}
 use Rattle.runs.specs.ByPlaces.{lineFor, wordsFor}

@@ -11,9 +11,9 @@ use Rattle.schedule.specs.declared.Next.{Next}
 use Rattle.schedule.specs.Meaning.{nextIs}
 use Rattle.schedule.specs.Taking as Taking
 use Rattle.schedule.specs.Taking.{Cursors, rejected, over, refused, taken, NextPromise}
-use Rattle.runs.specs.declared.Shown.{Shown}
-use Rattle.runs.specs.declared.Shown.the-variants.{Nothing, NoStep, Asked}
-use Rattle.runs.specs.Lines.{stepLine, lineIs}
+use Rattle.lines.specs.declared.Shown.{Shown}
+use Rattle.lines.specs.declared.Shown.the-variants.{Nothing, NoStep, Asked}
+use Rattle.lines.specs.Lines.{stepLine, lineIs}
 use Rattle.runs.specs.Players.{Player, PlayerStepPromise}
 use Rattle.runs.specs.ByPlaces.{lineFor, wordsFor, NextShown, PlacePromise}
 

@@ -6,8 +6,8 @@ use mathlib.Core.List.{List, [], _∷_}
 use mathlib.Core.Option.{Option, none, some}
 use Rattle.rules.specs.Promise.{Due, Promise}
 use Rattle.schedule.specs.Taking.{Cursors, Next, rejected, over, refused, taken, nextOf, cursorsAfter}
-use Rattle.runs.specs.declared.Shown.{Shown}
-use Rattle.runs.specs.Lines.{Line, noStep, stepLine, lineIs}
+use Rattle.lines.specs.declared.Shown.{Shown}
+use Rattle.lines.specs.Lines.{Line, noStep, stepLine, lineIs}
 use Rattle.runs.specs.Players.{Player, replyBy, wordsBy}
 
 -- Lines, and the words at the end.

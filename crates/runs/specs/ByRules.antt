@@ -13,7 +13,7 @@ use Rattle.layout.specs.View.{wordSetting}
 use Rattle.schedule.specs.Sound.{scriptIn, orderIn}
 use Rattle.schedule.specs.Scripts.{ScriptStep, stepsOf}
 use Rattle.schedule.specs.Admitting.{Admission, admissionOf}
-use Rattle.runs.specs.Lines.{Line, noStep, stepLine}
+use Rattle.lines.specs.Lines.{Line, noStep, stepLine}
 
 -- Where a run stands: of each handler the steps that are not used up, and the register.
 pub record RunState : Type 0 where

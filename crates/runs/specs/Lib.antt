@@ -1,5 +1,4 @@
 -- The run of a schedule file, in the order in which it is best read.
-pub mod Lines
 pub mod ByRules
 pub mod Players
 pub mod ByPlaces

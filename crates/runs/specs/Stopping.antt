@@ -7,8 +7,8 @@ use lib.Dec.{eqb}
 use Rattle.rules.specs.Promise.{Promise, answering}
 use Rattle.rules.specs.steps.Tables.{if_then_else_, isFound}
 use Rattle.rules.specs.steps.Replies.{refusalNumber, Reply, reported}
-use Rattle.runs.specs.Lines.{Line, lineIs}
-use Rattle.runs.specs.declared.Shown.{Shown}
+use Rattle.lines.specs.Lines.{Line, lineIs}
+use Rattle.lines.specs.declared.Shown.{Shown}
 
 -- The reply is the refusal 33.
 abbrev pub saysTooMany : Reply ℕ → Bool

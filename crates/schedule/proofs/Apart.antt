@@ -1,16 +1,21 @@
 -- Nothing is lost in what the answers mean: different answers are different admissions, refusals and steps. Each can be read back.
+use Prim.Native.Nat.{ℕ}
 use mathlib.Core.Path.{_≡_, refl, ap}
+use mathlib.Core.List.{List}
 use mathlib.Core.Option.{Option, none, some}
 use Rattle.rules.specs.steps.Replies as Rules
-use Rattle.rules.proofs.Determined.{Determined, determined}
+use Rattle.rules.proofs.Determined.{Determined, determined, one-outcome}
 use Rattle.rules.proofs.steps.Numbers.{Injective, read-back}
 use Rattle.replies.proofs.Apart.{refusalBack, refusal-same}
 use Rattle.schedule.specs.Admitting as Admitting
+use Rattle.schedule.specs.Finding.{PartPromise, ScriptPromise}
 use Rattle.schedule.specs.Taking as Taking
 use Rattle.schedule.specs.declared.Admitted.{Admitted}
 use Rattle.schedule.specs.declared.Admitted.the-variants.{Sound}
 use Rattle.schedule.specs.declared.Found.{Found}
 use Rattle.schedule.specs.declared.Found.the-variants.{Script, Missing}
+use Rattle.schedule.specs.declared.Part.{Part}
+use Rattle.schedule.specs.declared.Cursors.{Cursors}
 use Rattle.schedule.specs.declared.Next.{Next}
 use Rattle.schedule.specs.declared.Next.the-variants.{Over, Refused, Taken}
 use Rattle.schedule.specs.Meaning.{admissionIs, foundIs, nextIs}
@@ -68,6 +73,18 @@ admitted-determined = determined admitted-apart
 pub found-determined : Determined foundIs
 found-determined = determined found-apart
 
--- and a next step, which leaves one row of cursors.
+-- so have the cursors before the first order place;
+pub start-determined : {a b : Cursors} → Taking.StartPromise (a .at) → Taking.StartPromise (b .at) → a ≡ b
+start-determined p q = ap (λ at. record { at = at }) (one-outcome p q .0)
+
+-- a script lies in one place,
+pub part-determined : {file : List ℕ} {handler : ℕ} {a b : Part} → PartPromise file handler a → PartPromise file handler b → a ≡ b
+part-determined p q = one-outcome p q .0
+
+-- is one row of bytes,
+pub script-determined : {file : List ℕ} {handler : ℕ} {a b : List ℕ} → ScriptPromise file handler a → ScriptPromise file handler b → a ≡ b
+script-determined p q = one-outcome p q .0
+
+-- and a next step has one, which leaves one row of cursors.
 pub next-determined : Determined nextIs
 next-determined = determined nexts-apart

@@ -4,17 +4,21 @@ use mathlib.Core.Path.{_≡_, sym, ap, _∙_}
 use mathlib.Core.Bool.{true, false}
 use mathlib.Core.List.{List}
 use mathlib.Core.Option.{some}
+use native.Mathlib.Omega.{arith}
 use lib.ListN.{length, set}
 use borrow.Author.Tests.{le-leb, lt-leb}
 use Rattle.rules.specs.steps.Codes.{plainSheet}
 use Rattle.rules.specs.steps.Replies.{Refusal, badFile, noHandler}
 use Rattle.rules.specs.steps.Checks.{firstHit}
+use Rattle.rules.proofs.steps.Tables.{by}
+use Rattle.limits.specs.Limits.{mostFileBytes}
 use Rattle.schedule.specs.Bytes.{byteAt}
-use Rattle.schedule.specs.Sound.{handlersIn, orderIn, isSoundFile}
+use Rattle.schedule.specs.Sound.{handlersIn, tableStart, orderIn, isSoundFile}
 use Rattle.schedule.specs.Scripts.{ScriptStep, valueLong}
 use Rattle.schedule.specs.Taking.{Cursors, cursorOf, Next, rejected, over, refused, taken, leftOf, leftChecks, placeChecks, answered}
-use Rattle.schedule.specs.Taking.{namedNext, nextOf, cursorsAfter, NextPromise}
+use Rattle.schedule.specs.Taking.{namedNext, nextOf, cursorsAfter, placesIn, NextPromise}
 use Rattle.schedule.specs.Fronts.{StepInFront, NamedNext}
+use Rattle.schedule.proofs.Sounds.{file-tested, body-short}
 
 -- ── The handler that is named ─────────────────────────────────────────
 
@@ -82,3 +86,12 @@ module _ (file : List ℕ) (cursors : Cursors) (place : ℕ) where
     next-named inside is named =
         let there = lt-leb (length (orderIn file)) place inside in
         record { replied = rw (sound, there, ← is) (named .replied); left = rw (sound, there, ← is) (named .left) }
+
+-- ── The places ────────────────────────────────────────────────────────
+
+-- There are no more places than a file has bytes.
+pub places-few : (file : List ℕ) → placesIn file ≤ mostFileBytes
+unfolding placesIn
+places-few file = by (isSoundFile file)
+    (λ sound. rw sound (omega (arith, body-short file tableStart (handlersIn file), file-tested file .0 sound .short)))
+    (λ unsound. rw unsound (omega arith))

@@ -14,7 +14,8 @@ use Rattle.rules.proofs.steps.Given.{range-tested}
 use Rattle.rules.proofs.steps.Tables.{and-iff, leb-iff, same-test}
 use Rattle.layout.proofs.Tested.{every-iff}
 use Rattle.limits.proofs.Ranges.{answers-no}
-use Rattle.schedule.specs.Bytes.{entryAt, offsetOf, lengthOf, entryBody}
+use Rattle.schedule.specs.Bytes.{entryAt, offsetOf, lengthOf, bytesAt, entryBody}
+use Rattle.schedule.specs.declared.Part.{Part}
 use Rattle.schedule.specs.Sound.{handlersIn, cellsIn, tableStart, entriesIn, dueAt, SoundTable, SoundFile, isPlaced, isSoundTable, isSoundFile}
 
 -- The test of equality answers the equality.
@@ -103,12 +104,12 @@ ends-answer file start entries due whole placed next =
 pub body-short : (file : List ℕ) (start k : ℕ) → length (entryBody file start k) ≤ length file
 body-short file start k = simp (length-take, length-drop) (omega arith)
 
--- What is lent from a body's offset on, of its length, is the body.
-pub body-lent : (file : List ℕ) (start k : ℕ) {from long : ℕ} → from ≡ offsetOf file start k → long ≡ lengthOf file start k
-    → take ((from + long) - from) (drop from file) ≡ entryBody file start k
-body-lent file start k {from} {long} begins lasts =
-    let count : (from + long) - from ≡ long = omega arith in
-    rw (count, begins, lasts)
+-- What is lent from a part's offset on, of its length, is that part.
+pub part-lent : (file : List ℕ) (place : Part) {given : Part} → given ≡ place
+    → take ((given .offset + given .length) - given .offset) (drop (given .offset) file) ≡ bytesAt file place
+part-lent file place {given} is =
+    let count : (given .offset + given .length) - given .offset ≡ given .length = omega arith in
+    rw (count, is)
 
 -- A file that is short enough, with n and m in range, is sound just when its table is.
 pub table-answer : (file : List ℕ) → length file ≤ 65535 → inRange (cellsIn file) (handlersIn file) ≡ true

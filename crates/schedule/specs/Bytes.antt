@@ -3,6 +3,7 @@ use Prim.Native.Nat.{ℕ, _+_, _*_}
 use mathlib.Core.List.{List}
 use lib.ListN.{getD}
 use Rattle.layout.specs.Rows.{part}
+use Rattle.schedule.specs.declared.Part.{Part}
 
 -- The byte at a place; 0 past the end.
 abbrev pub byteAt : List ℕ → ℕ → ℕ
@@ -28,6 +29,14 @@ offsetOf file start k = shortAt file (entryAt start k)
 abbrev pub lengthOf : List ℕ → ℕ → ℕ → ℕ
 lengthOf file start k = shortAt file (entryAt start k + 2)
 
+-- Where the body of entry k lies: from the entry's offset on, of the entry's length.
+abbrev pub entryPart : List ℕ → ℕ → ℕ → Part
+entryPart file start k = record { offset = offsetOf file start k; length = lengthOf file start k }
+
+-- The bytes of a file that lie there.
+abbrev pub bytesAt : List ℕ → Part → List ℕ
+bytesAt file place = part (place .offset) (place .length) file
+
 -- The body of entry k, a part of the file.
 abbrev pub entryBody : List ℕ → ℕ → ℕ → List ℕ
-entryBody file start k = part (offsetOf file start k) (lengthOf file start k) file
+entryBody file start k = bytesAt file (entryPart file start k)

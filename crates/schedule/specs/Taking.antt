@@ -7,7 +7,7 @@ use lib.Dec.{leb, ltb}
 use lib.ListN.{length, getD, set, drop, replicate}
 use Rattle.rules.specs.steps.Tables.{if_then_else_}
 use Rattle.rules.specs.steps.Codes.{plainSheet}
-use Rattle.rules.specs.Promise.{Due, Promise}
+use Rattle.rules.specs.Promise.{Due, Promise, answering}
 use Rattle.rules.specs.steps.Replies.{Refusal, badFile, noHandler, usedUp, unknownStep}
 use Rattle.rules.specs.steps.Checks.{Check, _when_, firstHit, isUnknown}
 use Rattle.schedule.specs.Bytes.{byteAt}
@@ -25,6 +25,14 @@ cursorOf cursors handler = getD cursors handler 0
 -- Before the first order place nothing is used up.
 abbrev pub atStart : Cursors
 atStart = replicate 16 0
+
+-- The question for them is given nothing.
+abbrev pub starts : Unit {0} → Due Cursors Unit
+starts = answering (λ asked. atStart)
+
+-- The promise of the cursors before the first order place.
+abbrev pub StartPromise : Cursors → Type 0
+StartPromise cursors = Promise starts tt cursors tt
 
 -- What comes next at an order place.
 pub data Next : Type 0 where
@@ -79,6 +87,14 @@ cursorsAfter cursors over = cursors
 cursorsAfter cursors (refused handler refusal) = cursors
 cursorsAfter cursors (taken handler step) =
     set cursors handler (cursorOf cursors handler + (1 + valueLong (plainSheet (step .code))))
+
+-- How many places the order has; none in a file that is not sound.
+unfoldable pub placesIn : List ℕ → ℕ
+placesIn file = if isSoundFile file then (length (orderIn file)) else 0
+
+-- The promise of the count of places.
+abbrev pub PlacesPromise : List ℕ → ℕ → Type 0
+PlacesPromise file reply = Promise (answering placesIn) file reply tt
 
 -- What the next step is asked of: the file, the cursors, and the order place.
 pub record NextCall : Type 0 where

@@ -5,14 +5,14 @@ mod sound;
 mod table;
 mod taking;
 
-ghost use mathlib.Core.Path.{_≡_};
 ghost use Rattle.schedule.specs.Admitting.{AdmissionPromise};
-ghost use Rattle.schedule.specs.Finding.{ScriptPromise, AnswerPromise};
-ghost use Rattle.schedule.specs.Taking.{atStart, NextPromise};
+ghost use Rattle.schedule.specs.Finding.{ScriptPromise, PartPromise, AnswerPromise};
+ghost use Rattle.schedule.specs.Taking.{StartPromise, NextPromise, PlacesPromise};
 ghost use Rattle.schedule.specs.Meaning.{admissionIs, foundIs, nextIs};
 use crate::sound::sound_file;
 use crate::sound::whole_scripts;
 use crate::table::body;
+use crate::table::entry;
 use crate::taking::Order;
 use crate::taking::named_step;
 use crate::taking::order_byte;
@@ -30,6 +30,12 @@ pub enum Found {
     Missing(Refusal),
 }
 
+// A part of a file, by where it begins and how long it is.
+pub struct Part {
+    pub offset: usize,
+    pub length: usize,
+}
+
 // Of each handler, the place in its script up to which it is used up.
 pub struct Cursors {
     pub at: [usize; limits::HANDLER_TABLE],
@@ -39,8 +45,8 @@ pub struct Cursors {
 pub enum Next {
     Rejected(Refusal),
     Over,
-    Refused { handler: u32, refusal: Refusal },
-    Taken { handler: u32, code: u32, value: u32 },
+    Refused { handler: u8, refusal: Refusal },
+    Taken { handler: u8, code: u8, value: u32 },
 }
 
 // What comes next, and the cursors afterwards.
@@ -79,22 +85,47 @@ pub fn script_answer(file: &[u8], handler: u32) -> Found
     Found::Script
 }
 
-// A handler's script, as the very part of the file; empty where it is not found.
-pub fn script(file: &[u8], handler: u32) -> &[u8]
-    ensures { λ r. ⌜ ScriptPromise (now (file .entry)) handler (now r) ⌝ }
+// Where a handler's script lies in the file; at 0 and 0 long where it is not found.
+pub fn script_part(file: &[u8], handler: u32) -> Part
+    ensures { λ r. ⌜ PartPromise (now (file .entry)) handler r ⌝ }
 {
     match script_answer(file, handler) {
         Found::Script => {
             let k = handler as usize;
-            body(file, 2, k)
+            entry(file, 2, k)
         }
-        Found::Missing(_) => &file[0..0],
+        Found::Missing(_) => Part {
+            offset: 0,
+            length: 0,
+        },
     }
+}
+
+// A handler's script, as the very part of the file; empty where it is not found.
+pub fn script(file: &[u8], handler: u32) -> &[u8]
+    ensures { λ r. ⌜ ScriptPromise (now (file .entry)) handler (now r) ⌝ }
+{
+    let part = script_part(file, handler);
+    let from = part.offset;
+    let end = from + part.length;
+    &file[from..end]
+}
+
+// How many places the order has; none in a file that is not sound.
+pub fn order_places(file: &[u8]) -> usize
+    ensures { λ r. ⌜ PlacesPromise (now (file .entry)) r ⌝ }
+{
+    if !sound_file(file) {
+        return 0;
+    }
+    let n = file[0] as usize;
+    let order = body(file, 2, n);
+    order.len()
 }
 
 // No step is used up.
 pub fn at_start() -> Cursors
-    ensures { λ r. ⌜ r .at ≡ atStart ⌝ }
+    ensures { λ r. ⌜ StartPromise (r .at) ⌝ }
 {
     Cursors {
         at: [0; limits::HANDLER_TABLE],

@@ -11,7 +11,7 @@ use replies::Refusal;
 // What stands in front of what is left of a script.
 pub enum Front {
     Refuses(Refusal),
-    Stands { code: u32, value: u32, long: usize },
+    Stands { code: u8, value: u32, long: usize },
 }
 
 // The bytes that a step takes, its value with it; 0 where the code is unknown.
@@ -62,15 +62,11 @@ pub fn in_front(script: &[u8], at: usize) -> Front
     }
     if long < 5 {
         return Front::Stands {
-            code: code as u32,
+            code,
             value: 0,
             long,
         };
     }
     let value = long_at(script, at + 1);
-    Front::Stands {
-        code: code as u32,
-        value,
-        long,
-    }
+    Front::Stands { code, value, long }
 }

@@ -3,8 +3,9 @@ ghost use mathlib.Core.Path.{_≡_};
 ghost use Prim.Native.Nat.{ℕ, _+_, _<_, _≤_};
 ghost use lib.ListN.{length};
 ghost use Rattle.limits.specs.Limits.{mostFileBytes};
-ghost use Rattle.schedule.specs.Bytes.{shortAt, longAt, entryBody};
+ghost use Rattle.schedule.specs.Bytes.{shortAt, longAt, entryPart, entryBody};
 ghost use Rattle.schedule.specs.Sound.{SoundTable, isSoundTable};
+use crate::Part;
 
 // The 16-bit number at a place.
 fn short_at(bytes: &[u8], place: usize) -> usize
@@ -47,13 +48,24 @@ pub fn sound_table(file: &[u8], start: usize, entries: usize) -> bool
     due == file.len()
 }
 
+// The entry of a sound table: where its body lies.
+pub fn entry(file: &[u8], start: usize, k: usize) -> Part
+    requires { ⌜ ((entries : ℕ) × SoundTable (now file) start entries × (k < entries)) ⌝ }
+    ensures { λ r. ⌜ r ≡ entryPart (now (file .entry)) start k ⌝ }
+{
+    let at = start + 4 * k;
+    let offset = short_at(file, at);
+    let length = short_at(file, at + 2);
+    Part { offset, length }
+}
+
 // The body of an entry of a sound table, as the very part of the file.
 pub fn body(file: &[u8], start: usize, k: usize) -> &[u8]
     requires { ⌜ ((entries : ℕ) × SoundTable (now file) start entries × (k < entries)) ⌝ }
     ensures { λ r. ⌜ now r ≡ entryBody (now (file .entry)) start k ⌝ }
 {
-    let at = start + 4 * k;
-    let from = short_at(file, at);
-    let end = from + short_at(file, at + 2);
+    let part = entry(file, start, k);
+    let from = part.offset;
+    let end = from + part.length;
     &file[from..end]
 }

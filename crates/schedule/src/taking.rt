@@ -15,7 +15,7 @@ use replies::Refusal;
 pub enum Order {
     Rejected,
     Over,
-    Names(u32),
+    Names(u8),
 }
 
 // The order byte at a place.
@@ -30,15 +30,15 @@ pub fn order_byte(file: &[u8], place: usize) -> Order
     if order.len() <= place {
         return Order::Over;
     }
-    Order::Names(order[place] as u32)
+    Order::Names(order[place])
 }
 
 // The next step of the handler that an order byte names.
-pub fn named_step(file: &[u8], cursors: Cursors, handler: u32) -> Step
+pub fn named_step(file: &[u8], cursors: Cursors, handler: u8) -> Step
     requires { ⌜ SoundFile (now file) ⌝ }
     ensures { λ r. ⌜ NamedNext (now (file .entry)) (cursors .at) handler (nextIs (r .next)) (r .cursors .at) ⌝ }
 {
-    let n = file[0] as u32;
+    let n = file[0];
     if n <= handler {
         let refusal = Refusal::NoHandler;
         return Step {

@@ -14,8 +14,8 @@ use Rattle.rules.specs.steps.Register.{Register, withHandler, idle}
 use Rattle.rules.specs.steps.Figure.{stamped, isOvertaken, isSpent, committing}
 use Rattle.layout.specs.Bits.{hasBit}
 use Rattle.layout.specs.Places.{bodyLong, handlerStart, handlerLong, copiesFrom}
-use Rattle.layout.specs.View.{wordSetting, viewHandler, view, pourHandler, holding}
-use Rattle.layout.proofs.Holds.{Holds, holds-is}
+use Rattle.layout.specs.View.{wordSetting, viewHandler, view, pourHandler, holding, Holds}
+use Rattle.layout.proofs.Holds.{holds-is}
 use Rattle.layout.proofs.Kept.{view-bounded}
 use Rattle.layout.proofs.OneHandler.{block-put}
 use Rattle.layout.specs.Rows.{splice}

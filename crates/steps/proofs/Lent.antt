@@ -11,12 +11,12 @@ use Rattle.rules.specs.steps.Replies.{Outcome}
 use Rattle.rules.specs.steps.Register.{Handler, withHandler}
 use Rattle.rules.specs.steps.Figure.{step}
 use Rattle.layout.specs.Places.{bodyLong, handlerStart, handlerLong}
-use Rattle.layout.specs.View.{wordSetting, viewHandler, view, pourHandler, holding}
+use Rattle.layout.specs.View.{wordSetting, viewHandler, view, pourHandler, holding, Holds}
 use Rattle.layout.specs.WellFormed.{GoodBlock}
 use Rattle.layout.proofs.Places.{handler-fits, handler-start-small}
 use Rattle.layout.proofs.PourView.{well-holds}
 use Rattle.layout.proofs.ViewPour.{view-handler}
-use Rattle.layout.proofs.Holds.{Holds, holds-is}
+use Rattle.layout.proofs.Holds.{holds-is}
 use Rattle.layout.proofs.OneHandler.{block-put}
 use Rattle.block.specs.Blocks.{Block, OpenBlock}
 use Rattle.places.specs.Spans.{Spans}

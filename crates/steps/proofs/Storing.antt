@@ -13,8 +13,7 @@ use Rattle.rules.specs.steps.Figure.{stamped, stored, committing}
 use Rattle.rules.proofs.steps.Tables.{by, put-here, put-other}
 use Rattle.layout.specs.Bits.{hasBit}
 use Rattle.layout.specs.Places.{cellLong, cellStart}
-use Rattle.layout.specs.View.{wordSetting, pourCell}
-use Rattle.layout.proofs.Holds.{Holds}
+use Rattle.layout.specs.View.{wordSetting, pourCell, Holds}
 use Rattle.layout.proofs.OneHandler.{withCell, cell-put}
 use Rattle.layout.specs.Rows.{splice}
 use Rattle.steps.specs.Stores.{storedBelow, Stores}

@@ -9,8 +9,7 @@ use lib.ListN.{length}
 use Rattle.rules.specs.steps.Tables.{if_then_else_}
 use Rattle.rules.specs.steps.Register.{Register}
 use Rattle.layout.specs.Bits.{hasBit}
-use Rattle.layout.specs.View.{view}
-use Rattle.layout.proofs.Holds.{Holds}
+use Rattle.layout.specs.View.{view, Holds}
 
 -- Each cell's own number.
 abbrev pub ownNumbers : ℕ → ℕ → List ℕ → ℕ → ℕ

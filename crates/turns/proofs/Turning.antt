@@ -12,10 +12,10 @@ use Rattle.rules.specs.steps.Replies.{Refusal, Outcome, Reply, reported}
 use Rattle.rules.specs.steps.Checks.{asking, firstHit, Asked, stepChecks}
 use Rattle.rules.specs.steps.Given.{phaseFor, Free}
 use Rattle.rules.specs.steps.Figure.{Result}
-use Rattle.rules.specs.steps.Turn.{asked}
+use Rattle.rules.specs.steps.Turn.{asked, takenTurn, refusedTurn}
 use Rattle.rules.proofs.steps.Sheets.{step-under}
 use Rattle.rules.proofs.steps.Given.{given-exactly, free-exactly}
-use Rattle.rules.proofs.steps.Turns.{refusedTurn, takenTurn, given-turn, free-turn}
+use Rattle.rules.proofs.steps.Turns.{given-turn, free-turn}
 use Rattle.layout.specs.Bits.{bit}
 use Rattle.layout.specs.View.{wordSetting, view, holding}
 use Rattle.layout.specs.WellFormed.{PhasesTo}

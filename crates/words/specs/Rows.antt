@@ -4,7 +4,7 @@ use Prim.Native.Nat.{ℕ, _+_, _≤_, _<_}
 use mathlib.Core.Path.{_≡_}
 use mathlib.Core.List.{List}
 use lib.ListN.{length, getD}
-use Rattle.layout.proofs.Untouched.{Untouched}
+use Rattle.layout.specs.Rows.{Untouched}
 
 -- So many words from a place on are those of the table, and all others as they were.
 pub record Changed (from count : ℕ) (table : ℕ → ℕ) (words after : List ℕ) : Type 0 where

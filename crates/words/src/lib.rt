@@ -5,8 +5,7 @@ ghost use Prim.Native.Nat.{_+_, _≤_, _<_};
 ghost use lib.ListN.{length, getD};
 ghost use Rattle.rules.specs.steps.Register.{zeros};
 ghost use Rattle.limits.specs.Limits.{mostCells};
-ghost use Rattle.layout.specs.Bits.{hasBit};
-ghost use Rattle.layout.proofs.Bits.{withBit};
+ghost use Rattle.layout.specs.Bits.{hasBit, withBit};
 ghost use Rattle.words.specs.Rows.{Changed, RowOf};
 
 // Whether cell c is in the set.

@@ -18,7 +18,7 @@ use Rattle.formed.proofs.well_formed.Tie as tie
 -- Where the second test is passed, m and n are in range.
 range : (c : tie.Else2) → let words = c .before .before .before .before .before .before .args .words .now in
     InRange (cellsOf words) (handlersOf words)
-range c = range-tested _ _ .0 (sym (c .before .in-range .ensures) ∙ not-false _ (c .if2 .left))
+range c = range-tested _ _ .0 (sym (c .before .in-range .ensures .replied) ∙ not-false _ (c .if2 .left))
 
 pub well-formed-spec : {M : Type 1} → statement M
 well-formed-spec =
@@ -30,7 +30,7 @@ well-formed-spec =
     (λ c. search needs)
     -- out of range
     (λ c κs. search needs)
-    (λ c. not-formed _ (λ formed. both-ways (range-tested _ _ .1 (formed .range)) (sym (c .before .in-range .ensures) ∙ not-true _ (c .if2 .taken))))
+    (λ c. not-formed _ (λ formed. both-ways (range-tested _ _ .1 (formed .range)) (sym (c .before .in-range .ensures .replied) ∙ not-true _ (c .if2 .taken))))
     -- the body is looked at
     (λ c. omega (arith, range c))
     (λ c. omega (arith, range c))
@@ -40,4 +40,4 @@ well-formed-spec =
     (λ c κs. omega (arith, range (c .before)))
     (λ c. let tested = c .before .before in
     c .good-body .ensures ∙ ap (isGoodBody 1 _ _) (behind-is 2 (c .before .before .before .before .before .before .before .before .args .words .now))
-    ∙ in-range-formed _ (sym (tested .before .in-range .ensures) ∙ not-false _ (tested .if2 .left))))
+    ∙ in-range-formed _ (sym (tested .before .in-range .ensures .replied) ∙ not-false _ (tested .if2 .left))))

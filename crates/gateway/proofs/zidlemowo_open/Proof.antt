@@ -26,7 +26,7 @@ zidlemowo-open-spec =
     (λ c. let opens = c .before .before .before .before .before .before .«open» in
     record {
       replied =
-          c .refusal-number .ensures ∙ ap (λ answer. openingNumber (openingIs answer)) (sym (c .before .before .refusal .given .1))
+          c .refusal-number .ensures .replied ∙ ap (λ answer. openingNumber (openingIs answer)) (sym (c .before .before .refusal .given .1))
           ∙ ap openingNumber (opens .ensures .replied);
       left = opens .ensures .left;
     }))

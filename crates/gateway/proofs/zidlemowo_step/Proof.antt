@@ -1,43 +1,25 @@
 -- `gateway::zidlemowo_step` meets its promise: the register's, with its reply as a number.
-use Prim.Native.Nat.{_+_}
-use mathlib.Core.Path.{sym, ap, _∙_}
+use mathlib.Core.Path.{ap, _∙_}
+use native.Mathlib.Omega.{arith}
 use borrow.Author.Needs.{needs}
 use Rattle.replies.specs.Meaning.{replyIs}
 use Rattle.gateway.specs.Packed.{packed, replyNumber}
+use Rattle.gateway.proofs.Apart.{kind-small}
 use Rattle.gateway.proofs.zidlemowo_step.Statement.{statement}
 use Rattle.gateway.proofs.zidlemowo_step.Tie as tie
 
-returns-2 : tie.Need-returns-2
-unfolding packed
-returns-2 c =
-    let steps = c .before .before .before .before .before .before .before .step in
-    record {
-      replied =
-          c .pack .ensures ∙ ap (λ k. 17179869184 + k) (c .before .refusal-number .ensures)
-          ∙ ap (λ answer. replyNumber (replyIs answer)) (sym (c .before .before .before .refusal .given .1))
-          ∙ ap replyNumber (steps .ensures .replied);
-      left = steps .ensures .left;
-    }
-
 pub zidlemowo-step-spec : {M : Type 1} → statement M
+unfolding packed
 zidlemowo-step-spec =
     tie.close
     (tie.spec
     (λ c κs. search needs)
-    (λ c. search needs)
     (λ c κs. search needs)
+    (λ c κs. omega (arith, ap (λ n. n .kind) (c .numbers-of .ensures .replied), kind-small (replyIs (c .before .before .before .step .result))))
     (λ c. search needs)
-    (λ c κs. search needs)
-    (λ c κs. search needs)
-    (λ c. search needs)
-    -- reported
-    (λ c. let steps = c .before .before .before .before .before .before .step in
+    (λ c. let steps = c .before .before .before .before .step in
+    let numbers = c .before .numbers-of .ensures .replied in
     record {
-      replied =
-          c .pack-outcome .ensures ∙ ap (λ answer. replyNumber (replyIs answer)) (sym (c .before .before .report .given .1))
-          ∙ ap replyNumber (steps .ensures .replied);
+      replied = c .pack .ensures ∙ ap packed numbers ∙ ap replyNumber (steps .ensures .replied);
       left = steps .ensures .left;
-    })
-    (λ c. search needs)
-    -- refused
-    returns-2)
+    }))

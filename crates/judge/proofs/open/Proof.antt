@@ -16,7 +16,7 @@ use Rattle.judge.proofs.open.Tie as tie
 
 -- m and n are in range.
 ranged : (c : tie.Else1) → inRange (c .before .before .before .args .m) (c .before .before .before .args .n) ≡ true
-ranged c = sym (c .before .in-range .ensures) ∙ not-false _ (c .if1 .left)
+ranged c = sym (c .before .in-range .ensures .replied) ∙ not-false _ (c .if1 .left)
 
 pub open-spec : {M : Type 1} → statement M
 open-spec =
@@ -24,7 +24,7 @@ open-spec =
     (tie.spec
     (λ c κs. search needs)
     -- 20
-    (λ c. let out = sym (c .before .in-range .ensures) ∙ not-true _ (c .if1 .taken) in
+    (λ c. let out = sym (c .before .in-range .ensures .replied) ∙ not-true _ (c .if1 .taken) in
     ledger-stops _ _ _ outOfRange (wrongCounts (λ inside. both-ways (range-tested _ _ .1 inside) out)))
     -- 21
     (λ c. ledger-stops _ _ _ tooShort (wrongLength (range-tested _ _ .0 (ranged (c .before))) (omega arith)))

@@ -33,8 +33,8 @@ said : (c : tie.After-verdict-of) → let args = start-at (kept-at c) .args in
     verdictIs (c .verdict-of .result) ≡ says (args .words .now) (args .handler) (args .code)
 said c =
     let args = start-at (kept-at c) .args in
-    c .verdict-of .ensures
-    ∙ asked-plainly (args .words .now) (args .handler) (args .code) (kind-at c .kind-of .ensures) (opened-at c .is-open .ensures)
+    c .verdict-of .ensures .replied
+    ∙ asked-plainly (args .words .now) (args .handler) (args .code) (kind-at c .kind-of .ensures .replied) (opened-at c .is-open .ensures)
 
 -- The checks let the step through.
 passes : (c : tie.After-enum-told) → let args = start-at (kept-at (c .before .before)) .args in
@@ -60,7 +60,7 @@ step-spec =
     (λ c κs. let verdict = c .before .before .before in
     let args = start-at (kept-at verdict) .args in
     let (s, asks, ready) = step-ready (args .words .now) (args .handler) (args .code) (args .value) (ledger (kept-at verdict)) (passes (c .before)) in
-    (s, kind-at verdict .kind-of .ensures ∙ asks, ready))
+    (s, kind-at verdict .kind-of .ensures .replied ∙ asks, ready))
     (λ c. search needs)
     -- refused
     (λ c. let verdict = c .before .before .before in
@@ -69,4 +69,5 @@ step-spec =
     -- passed
     (λ c. let told = c .before .before .before .before in
     let verdict = told .before .before in
-    step-passes _ _ _ _ (ledger (kept-at verdict)) (passes told) (λ s asks. c .before .before .pass .ensures s (kind-at verdict .kind-of .ensures ∙ asks))))
+    step-passes _ _ _ _ (ledger (kept-at verdict)) (passes told)
+    (λ s asks. c .before .before .pass .ensures s (kind-at verdict .kind-of .ensures .replied ∙ asks))))

@@ -1,4 +1,5 @@
 -- `limits::in_range` meets its contract: each test is one of the range.
+use mathlib.Core.Path.{refl}
 use native.Mathlib.Omega.{arith}
 use borrow.Author.Tests.{leb-true, le-leb}
 use Rattle.rules.proofs.steps.Given.{range-tested}
@@ -16,6 +17,9 @@ in-range-spec =
     (λ c. out-of-range _ _ (λ range. omega arith))
     (λ c. out-of-range _ _ (λ range. omega arith))
     -- what is left to test
-    (λ c. same-test _ _
-    (λ e. range-tested _ _ .1 (omega (arith, leb-true)))
-    (λ e. le-leb _ _ (range-tested _ _ .0 e .handlers))))
+    (λ c. record {
+      replied = same-test _ _
+          (λ e. range-tested _ _ .1 (omega (arith, leb-true)))
+          (λ e. le-leb _ _ (range-tested _ _ .0 e .handlers));
+      left = refl;
+    }))

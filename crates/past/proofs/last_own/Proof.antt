@@ -3,7 +3,7 @@ use Prim.Native.Nat.{ℕ, _-_, _≤_}
 use mathlib.Core.Path.{_≡_, sym, _∙_}
 use mathlib.Core.Logic.{⊎-elim}
 use native.Mathlib.Omega.{arith}
-use Rattle.rules.proofs.history.Pasts.{lastOf}
+use Rattle.rules.specs.history.Past.{lastOf}
 use Rattle.ledger.specs.Histories.{commitsIn}
 use Rattle.ledger.proofs.Commits.{last-none, last-own, last-other}
 use Rattle.past.proofs.last_own.Statement.{statement}

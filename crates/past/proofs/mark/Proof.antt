@@ -3,8 +3,8 @@ use Prim.Native.Nat.{_-_}
 use mathlib.Core.Path.{_≡_, sym, _∙_}
 use native.Mathlib.Omega.{arith}
 use borrow.Author.Needs.{needs}
-use Rattle.layout.specs.Bits.{hasBit}
-use Rattle.layout.proofs.Bits.{withBit, with-there, with-shifted, shifted-fits}
+use Rattle.layout.specs.Bits.{hasBit, withBit}
+use Rattle.layout.proofs.Bits.{with-there, with-shifted, shifted-fits}
 use Rattle.past.specs.Marks.{only, Adds}
 use Rattle.past.proofs.Marks.{marked-at, adds-one}
 use Rattle.past.proofs.mark.Statement.{statement}

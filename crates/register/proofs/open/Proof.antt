@@ -23,7 +23,7 @@ use Rattle.register.proofs.open.Tie as tie
 
 -- m and n are in range.
 ranged : (c : tie.Else1) → inRange (c .before .before .before .args .m) (c .before .before .before .args .n) ≡ true
-ranged c = sym (c .before .in-range .ensures) ∙ not-false _ (c .if1 .left)
+ranged c = sym (c .before .in-range .ensures .replied) ∙ not-false _ (c .if1 .left)
 
 -- The body is small.
 small : (c : tie.After-body-words) → c .body-words .result ≤ 2640
@@ -61,7 +61,7 @@ open-spec =
     (tie.spec
     (λ c κs. search needs)
     -- 20
-    (λ c. opening-out _ _ _ (sym (c .before .in-range .ensures) ∙ not-true _ (c .if1 .taken)))
+    (λ c. opening-out _ _ _ (sym (c .before .in-range .ensures .replied) ∙ not-true _ (c .if1 .taken)))
     (λ c κs. omega (arith, range-tested _ _ .0 (ranged c)))
     -- 21
     (λ c. omega (arith, small c))

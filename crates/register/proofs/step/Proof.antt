@@ -54,4 +54,4 @@ step-spec =
     rw (register-back words (omega (arith, well-long (formed tested))) left)
     (body-steps words (args .handler) (args .code) (args .value) (passed tested)
     (subst (λ body. BodyPromise plainSheet (cellsOf words) (handlersOf words) body (args .handler) (args .code) (args .value) (replyIs (c .before .before .turn .result)) left)
-    (behind-is 2 words) (c .before .before .turn .ensures plainSheet (sym (kind .kind-of .ensures)))))))
+    (behind-is 2 words) (c .before .before .turn .ensures plainSheet (sym (kind .kind-of .ensures .replied)))))))

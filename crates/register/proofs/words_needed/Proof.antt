@@ -15,11 +15,11 @@ use Rattle.register.proofs.words_needed.Tie as tie
 
 returns : tie.Need-returns
 unfolding lengthFor
-returns c = record { replied = rw (sym (c .before .in-range .ensures) ∙ not-true _ (c .if1 .taken)); left = refl }
+returns c = record { replied = rw (sym (c .before .in-range .ensures .replied) ∙ not-true _ (c .if1 .taken)); left = refl }
 
 -- m and n are in range.
 ranged : (c : tie.Else1) → inRange (c .before .before .args .m) (c .before .before .args .n) ≡ true
-ranged c = sym (c .before .in-range .ensures) ∙ not-false _ (c .if1 .left)
+ranged c = sym (c .before .in-range .ensures .replied) ∙ not-false _ (c .if1 .left)
 
 returns-2 : tie.Need-returns-2
 unfolding lengthFor

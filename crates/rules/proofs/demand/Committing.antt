@@ -12,11 +12,11 @@ use Rattle.rules.specs.steps.Figure.{stamped, stored, isOvertaken, abort
 use Rattle.rules.specs.history.History.{Deed, Commit, Abort, History, hasRead, hasWritten, placeAfter}
 use Rattle.rules.specs.history.History.{everyCommit, writer}
 use Rattle.rules.specs.history.History.{transaction, ended, noteCommit, noteAbort}
-use Rattle.rules.specs.history.Past.{Stands, last, older, inPast, upTo}
+use Rattle.rules.specs.history.Past.{Stands, last, older, inPast, upTo, lastOf}
 use Rattle.rules.specs.history.Replay.{replay, Finds}
 use Rattle.rules.specs.demand.Judge.{versionCount, numberAmong}
 use Rattle.rules.proofs.steps.Tables.{by, some-false, put-three}
-use Rattle.rules.proofs.history.Pasts.{past-none, past-other, lastOf, lastOf-stood, lastOf-new, lastOf-other}
+use Rattle.rules.proofs.history.Pasts.{past-none, past-other, lastOf-stood, lastOf-new, lastOf-other}
 use Rattle.rules.proofs.history.Versions.{number-skip, number-every, number-new, number-old, writer-new, writer-old, writer-stood}
 use Rattle.rules.proofs.history.Deeds.{EachRead, readFrom-none, read-there, Holds, copied-after, finds-all, after-kept}
 use Rattle.rules.proofs.history.Sources.{source-stood, wroteBy-old}

@@ -14,11 +14,11 @@ use Rattle.rules.specs.steps.Figure.{begun, wrote}
 use Rattle.rules.specs.history.History.{Deed, again, set, Commit, Abort, History, hasRead, hasWritten, someLook}
 use Rattle.rules.specs.history.History.{everyCommit, writer}
 use Rattle.rules.specs.history.History.{noHistory, doing}
-use Rattle.rules.specs.history.Past.{Stands, inPast, upTo}
+use Rattle.rules.specs.history.Past.{Stands, inPast, upTo, lastOf}
 use Rattle.rules.specs.history.Replay.{replay, firstOf, FromPast}
 use Rattle.rules.specs.demand.Judge.{versionCount, numberAmong, copied}
 use Rattle.rules.proofs.steps.Tables.{by, put-three, put-same}
-use Rattle.rules.proofs.history.Pasts.{lastOf, past-last, past-again, past-set}
+use Rattle.rules.proofs.history.Pasts.{past-last, past-again, past-set}
 use Rattle.rules.proofs.history.Versions.{number-writer}
 use Rattle.rules.proofs.history.Deeds.{EachRead, each-none, each-again, each-set, Sound, sound-none, sound-new}
 use Rattle.rules.proofs.history.Sources.{Latest, latest-writer}

@@ -9,7 +9,7 @@ use Rattle.rules.specs.steps.Register.{Setting, Register}
 use Rattle.rules.specs.steps.Checks.{firstHit}
 use Rattle.rules.specs.steps.Given.{Given, phaseFor, Free}
 use Rattle.rules.specs.steps.Figure.{isOvertaken, isSpent, step}
-use Rattle.rules.specs.steps.Turn.{asked, turn}
+use Rattle.rules.specs.steps.Turn.{asked, turn, takenTurn}
 use Rattle.rules.specs.history.History.{History, hasRead, hasWritten, writer}
 use Rattle.rules.specs.history.Past.{inPast, tears}
 use Rattle.rules.specs.demand.Demand.{reportedTo}
@@ -17,7 +17,7 @@ use Rattle.rules.specs.demand.Judge.{stale, full, orAborted, answerRead,
 use Rattle.rules.proofs.steps.Tables.{or-left}
 use Rattle.rules.proofs.steps.Given.{given-exactly, free-exactly}
 use Rattle.rules.proofs.steps.Steps.{tornAt, reading-cases, trying-cases}
-use Rattle.rules.proofs.steps.Turns.{takenTurn, turn-cases}
+use Rattle.rules.proofs.steps.Turns.{turn-cases}
 use Rattle.rules.proofs.history.Deeds.{EachRead}
 use Rattle.rules.proofs.history.Sources.{Latest, stale-at}
 use Rattle.rules.proofs.demand.Invariant.{Carries, Invariant, own-number}

@@ -9,7 +9,7 @@ use lib.Dec.{eqb}
 use borrow.Author.Tests.{eqb-true, eqb-false, eq-eqb, ne-eqb}
 use Rattle.rules.specs.steps.Tables.{if_then_else_}
 use Rattle.rules.specs.history.History.{Deed, look, again, set, Commit, someLook, placeAfter}
-use Rattle.rules.specs.history.Past.{hasReadFrom, follows, inPast, upTo}
+use Rattle.rules.specs.history.Past.{hasReadFrom, follows, inPast, upTo, lastOf}
 use Rattle.rules.proofs.steps.Tables.{by, or-absorb, or-swap}
 
 module _ {W : Type 0} where
@@ -141,12 +141,7 @@ module _ {W : Type 0} where
 
   -- ── A handler's last commit ─────────────────────────────────────────
 
-  -- The last commit of handler i; 0, the opening, where it has none.
-  unfoldable pub lastOf : List (Commit W) → ℕ → ℕ
-  lastOf [] i = 0
-  lastOf (c ∷ commits) i = if eqb (c .handler) i then placeAfter commits else (lastOf commits i)
-
-  -- It stands.
+  -- The last commit of a handler stands.
   pub lastOf-stood : (commits : List (Commit W)) (i : ℕ) → lastOf commits i ≤ length commits
   unfolding lastOf
   lastOf-stood [] i = omega arith

@@ -1,4 +1,4 @@
--- Exactly when a first read or a try is aborted, and with which reason: the tests of Figure.antt as statements about every cell.
+-- Exactly when a first read or a try is aborted, and with which reason: the tests of Figure.antt answer the statements of Aborts.antt.
 use Prim.Native.Nat.{ℕ, _<_}
 use mathlib.Core.Path.{_≡_, refl, sym, ap, subst}
 use mathlib.Core.Bool.{Bool, true, false, not, _&&_}
@@ -10,6 +10,7 @@ use Rattle.rules.specs.steps.Codes.{try, read}
 use Rattle.rules.specs.steps.Replies.{Reason, torn, overtaken, spent, Outcome, committed, aborted}
 use Rattle.rules.specs.steps.Register.{Setting, Cell, Handler, Register}
 use Rattle.rules.specs.steps.Figure.{joined, isTorn, isOvertaken, isSpent, step}
+use Rattle.rules.specs.steps.Aborts.{Current, Stale, Spent, Roomy, Torn, TryAborted}
 use Rattle.rules.proofs.steps.Tables.{by, both-ways, and-left, and-right, and-both, some-true, some-from}
 use Rattle.rules.proofs.steps.Steps.{reading-cases, trying-cases}
 use Rattle.rules.proofs.steps.Properties.{commit-no-abort, value-no-abort}
@@ -33,28 +34,6 @@ none-in-set m set test = (
       (λ e. let k = some-in-set m set test .0 e in both-ways (k .3) (h (k .0) (k .1) (k .2)))
       (λ e. e),
 )
-
--- ── Statements about every cell ───────────────────────────────────────
-
--- Line 10: each cell of the read set still has the number that the transaction holds for it.
-pub Current : {W : Type 0} → Setting W → Register W → Handler W → Type 0
-Current S r h = (z : ℕ) → z < S .cellCount → h .readSet z ≡ true → h .transaction z ≡ r .cells z .numbers z
-
--- Some cell of the read set has another number than the transaction holds for it.
-pub Stale : {W : Type 0} → Setting W → Register W → Handler W → Type 0
-Stale S r h = (z : ℕ) × (z < S .cellCount) × (h .readSet z ≡ true) × (h .transaction z ≡ r .cells z .numbers z → ⊥)
-
--- Some written cell's number stands at 65,535.
-pub Spent : {W : Type 0} → Setting W → Register W → Handler W → Type 0
-Spent S r h = (z : ℕ) × (z < S .cellCount) × (h .writtenSet z ≡ true) × (r .cells z .numbers z ≡ 65535)
-
--- No written cell's number stands at 65,535.
-pub Roomy : {W : Type 0} → Setting W → Register W → Handler W → Type 0
-Roomy S r h = (z : ℕ) → z < S .cellCount → h .writtenSet z ≡ true → r .cells z .numbers z ≡ 65535 → ⊥
-
--- X depends on a later version of a cell of the read set than the transaction holds.
-pub Torn : {W : Type 0} → Setting W → Handler W → Cell W → Type 0
-Torn S h c = (y : ℕ) × (y < S .cellCount) × (h .readSet y ≡ true) × (h .transaction y < c .numbers y)
 
 module _ {W : Type 0} (S : Setting W) where
   -- The test of abort 2 answers exactly that a read is stale,
@@ -109,14 +88,8 @@ module _ {W : Type 0} (S : Setting W) where
   unfolding Stale Current
   stale-not-current r h (z, l, s, ne) current = ne (current z l s)
 
-  -- When a try is aborted with each reason: 2 goes before 3.
-  abbrev pub TryAborted : Reason → Register W → Handler W → Type 0
-  TryAborted torn r h = ⊥
-  TryAborted overtaken r h = Stale S r h
-  TryAborted spent r h = Current S r h × Spent S r h
-
   -- A try is aborted with one reason only.
-  one-reason : (r : Register W) (h : Handler W) (a b : Reason) → TryAborted a r h → TryAborted b r h → a ≡ b
+  one-reason : (r : Register W) (h : Handler W) (a b : Reason) → TryAborted S a r h → TryAborted S b r h → a ≡ b
   one-reason r h torn b t u = absurd t
   one-reason r h overtaken torn t u = absurd u
   one-reason r h overtaken overtaken t u = refl
@@ -126,7 +99,7 @@ module _ {W : Type 0} (S : Setting W) where
   one-reason r h spent spent t u = refl
 
   -- A try that is current and whose written cells have room is aborted with no reason.
-  no-reason : (r : Register W) (h : Handler W) → Current S r h → Roomy S r h → (reason : Reason) → TryAborted reason r h → ⊥
+  no-reason : (r : Register W) (h : Handler W) → Current S r h → Roomy S r h → (reason : Reason) → TryAborted S reason r h → ⊥
   unfolding Roomy Spent
   no-reason r h current roomy torn t = t
   no-reason r h current roomy overtaken t = stale-not-current r h t current
@@ -134,7 +107,7 @@ module _ {W : Type 0} (S : Setting W) where
 
   -- What holds of a try that is aborted, with the reason that it is aborted with, and of one that commits holds of the try.
   try-cases : (r : Register W) (i : ℕ) (v : W) (Q : Outcome W → Type 0)
-      → ((reason : Reason) → TryAborted reason r (r .handlers i) → Q (aborted reason))
+      → ((reason : Reason) → TryAborted S reason r (r .handlers i) → Q (aborted reason))
       → (Current S r (r .handlers i) → Roomy S r (r .handlers i) → Q committed) → Q (step S r i try v .outcome)
   unfolding step
   try-cases r i v Q aborts commits = trying-cases S r i (r .handlers i) (λ result. Q (result .outcome))
@@ -144,11 +117,11 @@ module _ {W : Type 0} (S : Setting W) where
 
   -- A try is aborted with each reason exactly then.
   pub try-aborted : (r : Register W) (i : ℕ) (v : W) (reason : Reason)
-      → (step S r i try v .outcome ≡ aborted reason) ↔ TryAborted reason r (r .handlers i)
+      → (step S r i try v .outcome ≡ aborted reason) ↔ TryAborted S reason r (r .handlers i)
   try-aborted r i v reason =
-      try-cases r i v (λ outcome. (outcome ≡ aborted reason) ↔ TryAborted reason r (r .handlers i))
+      try-cases r i v (λ outcome. (outcome ≡ aborted reason) ↔ TryAborted S reason r (r .handlers i))
       (λ other t. (
-        λ e. subst (λ k. TryAborted k r (r .handlers i)) (same e) t,
+        λ e. subst (λ k. TryAborted S k r (r .handlers i)) (same e) t,
         λ u. ap aborted (one-reason r (r .handlers i) other reason t u),
       ))
       (λ current roomy. (
@@ -181,7 +154,7 @@ module _ {W : Type 0} (S : Setting W) where
       Ends : Outcome W → Type 0
       Ends outcome = (outcome ≡ committed) ⊎ ((outcome ≡ aborted spent) × Spent S r (r .handlers i))
 
-      aborts : (reason : Reason) → TryAborted reason r (r .handlers i) → Ends (aborted reason)
+      aborts : (reason : Reason) → TryAborted S reason r (r .handlers i) → Ends (aborted reason)
       aborts torn t = absurd t
       aborts overtaken (z, l, s, ne) = both-ways s (unread z l)
       aborts spent t = inr (refl, t .1)

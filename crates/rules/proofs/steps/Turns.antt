@@ -10,19 +10,8 @@ use Rattle.rules.specs.steps.Register.{Setting, Register}
 use Rattle.rules.specs.steps.Checks.{Asked}
 use Rattle.rules.specs.steps.Given.{Given, Free}
 use Rattle.rules.specs.steps.Figure.{step}
-use Rattle.rules.specs.steps.Turn.{Turn, asked, stepRefusal, turned, turn}
+use Rattle.rules.specs.steps.Turn.{Turn, takenTurn, refusedTurn, asked, stepRefusal, turned, turn}
 use Rattle.rules.proofs.steps.Given.{Verdict, verdict, given-exactly, free-exactly}
-
--- What the turn of a step that is taken is.
-abbrev pub takenTurn : {W : Type 0} → Setting W → Register W → ℕ → ℕ → W → Step → Turn W
-takenTurn S r i code v s = record {
-  reply = reported (record { handler = i; code = code; outcome = step S r i s v .outcome });
-  after = step S r i s v .after;
-}
-
--- What the turn of a step that is refused is.
-abbrev pub refusedTurn : {W : Type 0} → Register W → Refusal → Turn W
-refusedTurn r refusal = record { reply = Reply.refused refusal; after = r }
 
 -- A refusal is no other refusal,
 refusal-same : {W : Type 0} {a b : Refusal} → _≡_ {A = Reply W} (Reply.refused a) (Reply.refused b) → a ≡ b

@@ -1,5 +1,6 @@
--- Document 01's cases K1 to K12 as data: one list of rows. A row has its opening, its steps with the replies that are expected,
--- and the words that are expected at the end. The crate `cases` claims them of the promises, proofs/AllCases.antt of the rules.
+-- Document 01's cases K1 to K12 as data, and some besides: one list of rows. A row has its opening, its steps with the replies that
+-- are expected, and the words that are expected at the end. The crate `cases` claims them of the promises, proofs/AllCases.antt of
+-- the rules.
 use Prim.Native.Nat.{ℕ}
 use mathlib.Core.List.{List, [], _∷_, _++_}
 use lib.ListN.{replicate}
@@ -74,7 +75,8 @@ untouched k = replicate k 7
 
 -- ── The rows ──────────────────────────────────────────────────────────
 
--- The cases, in their order. Before K1 and after K12 stand inputs that no register was opened for: each gets its number.
+-- The cases, in their order. Behind K12 stand K5, K6 and K12 with a read more than document 01 has, so that what is written is seen.
+-- Before K1 and at the end stand inputs that no register was opened for: each gets its number.
 unfoldable pub cases : List Case
 cases =
     -- a buffer of no word and of one
@@ -106,7 +108,7 @@ cases =
       start = opened 2 2 27 ok;
       lines =
           line 0 0 ok ∷ write 0 64 5 ∷ line 0 32 (value 5) ∷
-          line 1 0 ok ∷ write 1 64 9 ∷ line 1 32 (value 9) ∷ line 1 1 commit ∷
+          line 1 0 ok ∷ write 1 64 9 ∷ line 1 1 commit ∷
           line 0 1 commit ∷ [];
       end = register (cell 5 2 0 ∷ cell 0 0 0 ∷ []) (rests 2 0 ∷ rests 1 0 ∷ []) (untouched 1);
     } ∷
@@ -123,7 +125,7 @@ cases =
     record {
       start = opened 2 2 26 ok;
       lines =
-          line 0 0 ok ∷ line 0 32 (value 0) ∷ write 0 64 3 ∷ line 0 32 (value 3) ∷
+          line 0 0 ok ∷ line 0 32 (value 0) ∷ write 0 64 3 ∷
           line 1 0 ok ∷ write 1 64 5 ∷ line 1 1 commit ∷
           line 0 1 (abort 2) ∷ [];
       end = register (cell 5 1 0 ∷ cell 0 0 0 ∷ []) (rests 0 0 ∷ rests 1 0 ∷ []) [];
@@ -180,16 +182,55 @@ cases =
     -- K12 a written cell's number 65,534: commit, 65,535
     record {
       start = given (2 ∷ 1 ∷ (cell 8 65534 3 ++ (cell 0 0 0 ++ rests 0 2)));
+      lines = line 0 0 ok ∷ write 0 64 5 ∷ line 0 1 commit ∷ [];
+      end = register (cell 5 65535 2 ∷ cell 0 0 0 ∷ []) (rests 65535 2 ∷ []) [];
+    } ∷
+    -- at 65,535: abort 3
+    record {
+      start = given (2 ∷ 1 ∷ (cell 0 65535 0 ++ (cell 0 0 0 ++ rests 0 0)));
+      lines = line 0 0 ok ∷ write 0 64 5 ∷ line 0 1 (abort 3) ∷ [];
+      end = register (cell 0 65535 0 ∷ cell 0 0 0 ∷ []) (rests 0 0 ∷ []) [];
+    } ∷
+    -- with a stale read besides: abort 2
+    record {
+      start = given (2 ∷ 2 ∷ (cell 0 65535 0 ++ (cell 9 0 1 ++ (rests 4 0 ++ rests 0 0))));
+      lines =
+          line 0 0 ok ∷ line 0 33 (value 9) ∷ write 0 64 5 ∷
+          line 1 0 ok ∷ write 1 65 6 ∷ line 1 1 commit ∷
+          line 0 1 (abort 2) ∷ [];
+      end = register (cell 0 65535 0 ∷ cell 6 0 2 ∷ []) (rests 4 0 ∷ rests 0 2 ∷ []) [];
+    } ∷
+    -- besides K5: H1 reads what it wrote before it commits
+    record {
+      start = opened 2 2 27 ok;
+      lines =
+          line 0 0 ok ∷ write 0 64 5 ∷ line 0 32 (value 5) ∷
+          line 1 0 ok ∷ write 1 64 9 ∷ line 1 32 (value 9) ∷ line 1 1 commit ∷
+          line 0 1 commit ∷ [];
+      end = register (cell 5 2 0 ∷ cell 0 0 0 ∷ []) (rests 2 0 ∷ rests 1 0 ∷ []) (untouched 1);
+    } ∷
+    -- besides K6: H0 reads what it wrote before H1 commits
+    record {
+      start = opened 2 2 26 ok;
+      lines =
+          line 0 0 ok ∷ line 0 32 (value 0) ∷ write 0 64 3 ∷ line 0 32 (value 3) ∷
+          line 1 0 ok ∷ write 1 64 5 ∷ line 1 1 commit ∷
+          line 0 1 (abort 2) ∷ [];
+      end = register (cell 5 1 0 ∷ cell 0 0 0 ∷ []) (rests 0 0 ∷ rests 1 0 ∷ []) [];
+    } ∷
+    -- besides K12: the cell at 65,534 is read before it is written
+    record {
+      start = given (2 ∷ 1 ∷ (cell 8 65534 3 ++ (cell 0 0 0 ++ rests 0 2)));
       lines = line 0 0 ok ∷ line 0 32 (value 8) ∷ write 0 64 5 ∷ line 0 1 commit ∷ [];
       end = register (cell 5 65535 3 ∷ cell 0 0 0 ∷ []) (rests 65535 3 ∷ []) [];
     } ∷
-    -- at 65,535: abort 3
+    -- besides K12: what is written at 65,535 is read before the try
     record {
       start = given (2 ∷ 1 ∷ (cell 0 65535 0 ++ (cell 0 0 0 ++ rests 0 0)));
       lines = line 0 0 ok ∷ write 0 64 5 ∷ line 0 32 (value 5) ∷ line 0 1 (abort 3) ∷ [];
       end = register (cell 0 65535 0 ∷ cell 0 0 0 ∷ []) (rests 0 0 ∷ []) [];
     } ∷
-    -- with a stale read besides: abort 2
+    -- besides K12: the same with a stale read
     record {
       start = given (2 ∷ 2 ∷ (cell 0 65535 0 ++ (cell 9 0 1 ++ (rests 4 0 ++ rests 0 0))));
       lines =

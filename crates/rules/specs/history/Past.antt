@@ -83,6 +83,11 @@ module _ {W : Type 0} where
       if eqb k (placeAfter commits) then (eqb j (placeAfter commits) || inPast commits (c .handler) (c .deeds) j)
       else (upTo commits k j)
 
+  -- The last commit of handler i; 0, the opening, where it has none.
+  unfoldable pub lastOf : List (Commit W) → ℕ → ℕ
+  lastOf [] i = 0
+  lastOf (c ∷ commits) i = if eqb (c .handler) i then placeAfter commits else (lastOf commits i)
+
   -- A commit of a set wrote a later version of y than the source did.
   unfoldable pub later : List (Commit W) → (ℕ → Bool) → ℕ → ℕ → Bool
   later [] included y source = false

@@ -16,7 +16,7 @@ is-too-many-spec =
     (λ c κs. search needs)
     (λ c. search needs)
     -- a refusal
-    (λ c. ap (λ (number : ℕ). eqb number 33) (c .refusal-number .ensures)
+    (λ c. ap (λ (number : ℕ). eqb number 33) (c .refusal-number .ensures .replied)
     ∙ ap (λ answer. saysTooMany (replyIs answer)) (sym (c .before .before .answer .given .1)))
     -- a report
     (λ c. search needs))

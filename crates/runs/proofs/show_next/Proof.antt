@@ -12,6 +12,8 @@ show-next-spec =
     (λ c. search needs)
     (λ c. search needs)
     (λ c. search needs)
+    (λ c. search needs)
+    (λ c. search needs)
     (λ c κs. search needs)
     -- the file is refused
     (λ c. shown-as (c .enum-told .given .1) rejected-shown)

@@ -1,33 +1,21 @@
--- `schedule::script` meets its promise: the body where the script is found, and else an empty part.
-use mathlib.Core.Path.{_≡_, subst}
+-- `schedule::script` meets its promise: the part of the file where the script lies.
+use Prim.Native.Nat.{_+_, _≤_}
 use native.Mathlib.Omega.{arith}
+use mathlib.Core.Path.{refl}
+use lib.ListN.{length}
 use borrow.Author.Needs.{needs}
-use Rattle.schedule.specs.Finding.{AnswerPromise}
-use Rattle.schedule.specs.Meaning.{foundIs}
-use Rattle.schedule.specs.declared.Found.{Found}
-use Rattle.schedule.proofs.Finds.{found-there, part-found, part-missing}
+use Rattle.schedule.proofs.Sounds.{part-lent}
+use Rattle.schedule.proofs.Finds.{part-inside}
 use Rattle.schedule.proofs.script.Statement.{statement}
 use Rattle.schedule.proofs.script.Tie as tie
-
--- The promise of the answer, for the answer that was given.
-answered : (c : tie.After-script-answer) (found : Found) → c .script-answer .result ≡ found → let args = c .before .before .args in
-    AnswerPromise (args .file .now) (args .handler) (foundIs found)
-answered c found is =
-    let args = c .before .before .args in
-    subst (λ answer. AnswerPromise (args .file .now) (args .handler) (foundIs answer)) is (c .script-answer .ensures)
 
 pub script-spec : {M : Type 1} → statement M
 script-spec =
     tie.close
     (tie.spec
     (λ c κs. search needs)
-    (λ c. search needs)
-    (λ c κs. let there = found-there (answered (c .before .before) _ (c .enum-told .given .1)) in
-    (_, there .0 .table, omega (arith, there .1)))
+    (λ c. omega (arith, part-inside _ (c .before .script-part .ensures)))
     (λ c. search needs)
     (λ c. search needs)
-    (λ c. search needs)
-    (λ c. search needs)
-    -- found, and not found
-    (λ c. part-found (answered (c .before .before .before) _ (c .before .enum-told .given .1)) (c .body .ensures))
-    (λ c. part-missing (answered (c .before .before .before) _ (c .before .enum-told2 .given .1))))
+    (λ c. omega (arith, part-inside _ (c .before .script-part .ensures)))
+    (λ c. record { replied = part-lent _ _ (c .before .before .script-part .ensures .replied); left = refl }))

@@ -23,7 +23,7 @@ said : (c : tie.After-verdict-of) → let args = start c .args in
     (hasOpen (view (args .m) (args .n) (args .body .now) .handlers (args .handler)))))
 said c =
     let args = start c .args in
-    c .verdict-of .ensures
+    c .verdict-of .ensures .replied
     ∙ ap (λ opened. firstHit (stepChecks (asking true (args .m) (args .n) (args .handler) (kindIs (args .kind)) opened))) (c .before .has-open .ensures)
 
 -- The checks let the step through.

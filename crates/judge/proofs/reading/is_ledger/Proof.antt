@@ -15,8 +15,8 @@ is-ledger-spec =
     (λ c. search needs)
     (λ c. search needs)
     (λ c κs. search needs)
-    (λ c. ledger-out _ (omega (arith, c .before .before .before .before .if1 .left)) (sym (c .before .in-range .ensures) ∙ not-true _ (c .if2 .taken)))
+    (λ c. ledger-out _ (omega (arith, c .before .before .before .before .if1 .left)) (sym (c .before .in-range .ensures .replied) ∙ not-true _ (c .if2 .taken)))
     (λ c. search needs)
     (λ c. let ranged = c .before in
     ledger-counted _ (omega (arith, ranged .before .before .before .before .if1 .left))
-    (sym (ranged .before .in-range .ensures) ∙ not-false _ (ranged .if2 .left))))
+    (sym (ranged .before .in-range .ensures .replied) ∙ not-false _ (ranged .if2 .left))))

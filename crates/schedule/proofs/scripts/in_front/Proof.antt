@@ -25,12 +25,10 @@ in-front-spec =
     (λ c. search needs)
     (λ c. let at = c .before .before in
     front-cut (text at) (there at) (omega arith) (at .step-bytes .ensures) (c .before .if2 .left) (omega arith))
-    (λ c. omega (arith, c .before .before .before .before .shared-slice-known2 .given (there (c .before .before .before))))
     (λ c. let at = c .before .before .before in
     front-short (text at) (there at) (omega arith) (at .step-bytes .ensures) (c .before .before .if2 .left) (omega arith) (omega arith))
     (λ c. search needs)
     (λ c κs. search needs)
-    (λ c. let at = c .before .before .before .before in omega (arith, at .before .shared-slice-known2 .given (there at)))
     (λ c. let at = c .before .before .before .before in
     front-write (text at) (there at) (omega arith) (at .step-bytes .ensures) (c .before .before .before .if2 .left) (omega arith)
     (omega arith) (c .long-at .ensures)))

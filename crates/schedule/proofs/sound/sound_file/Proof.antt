@@ -22,11 +22,11 @@ sound-file-spec =
     (λ c. omega (arith, c .shared-slice-known3 .given 0))
     (λ c κs. search needs)
     -- out of range
-    (λ c. let out = sym (c .before .in-range .ensures) ∙ not-true _ (c .if3 .taken) in
+    (λ c. let out = sym (c .before .in-range .ensures .replied) ∙ not-true _ (c .if3 .taken) in
     not-sound-file (λ sound. both-ways (range-tested _ _ .1 (sound .range)) out))
     (λ c. omega (arith, c .before .before .shared-slice-known3 .given 0))
     (λ c. omega (arith, c .before .before .shared-slice-known3 .given 0))
     (λ c κs. omega (arith, c .before .before .shared-slice-known3 .given 0))
     -- as its table is
-    (λ c. let ranged = sym (c .before .before .in-range .ensures) ∙ not-false _ (c .before .if3 .left) in
+    (λ c. let ranged = sym (c .before .before .in-range .ensures .replied) ∙ not-false _ (c .before .if3 .left) in
     c .sound-table .ensures ∙ table-answer _ (omega arith) ranged))

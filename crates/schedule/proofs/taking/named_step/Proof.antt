@@ -60,7 +60,6 @@ named-step-spec =
     tie.close
     (tie.spec
     (λ c. omega (arith, head-there (c .before .before .pre)))
-    (λ c. search needs)
     -- 11
     (λ c. named-beyond _ _ _ (omega arith))
     (λ c κs. (_, c .before .before .before .pre .table, omega arith))

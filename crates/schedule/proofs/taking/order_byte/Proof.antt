@@ -28,7 +28,6 @@ order-byte-spec =
     -- no such place
     (λ c. (sound (c .before .before .before), omega (arith, ap length (c .before .body .ensures))))
     (λ c. search needs)
-    (λ c. omega (arith, c .shared-slice-known3 .given (c .before .before .before .before .before .before .before .args .place)))
     -- the byte there
     (λ c. let there = c .before .before .body .ensures in
     let place = c .before .before .before .before .before .before .before .args .place in

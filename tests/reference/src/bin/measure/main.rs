@@ -1,5 +1,6 @@
 //! Measures the proved register beside this crate's.
-//! `measure rows` takes each row once by each side, for callgrind; `measure schedule FILE` writes the largest schedule; and
+//! `measure rows` takes each row once by each side, for callgrind; `measure schedule FILE` writes the largest schedule; `measure memory
+//! PROGRAM SCHEDULE` prints the most memory that a program has on it, in KiB; and
 //! `measure table COUNTS SCHEDULE RUNNER RUNNER JUDGE JUDGE` times both and prints the table with the counts of a file, a number a
 //! line: those of the rows, ours and the reference's, then those of the four programs.
 mod programs;
@@ -61,15 +62,16 @@ fn table(counts: &str, schedule: &str, paths: [&str; 4]) {
     }
 }
 
-/// One of the three things that can be asked for.
+/// One of the four things that can be asked for.
 fn main() {
     let arguments: Vec<String> = std::env::args().skip(1).collect();
     match arguments.iter().map(String::as_str).collect::<Vec<_>>()[..] {
         ["rows"] => sides::counted(&rows::all()),
         ["schedule", file] => fs::write(file, programs::largest()).expect("the schedule is written"),
+        ["memory", program, schedule] => println!("{}", programs::memory(program, schedule)),
         ["table", counts, schedule, runner, reference_runner, judge, reference_judge] => {
             table(counts, schedule, [runner, reference_runner, judge, reference_judge])
         }
-        _ => panic!("rows, schedule or table"),
+        _ => panic!("rows, schedule, memory or table"),
     }
 }

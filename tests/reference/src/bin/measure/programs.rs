@@ -3,10 +3,10 @@
 use reference::random::Random;
 use reference::schedule::LONGEST;
 use reference::{generate, schedule};
-use std::fs;
-use std::io::Read;
+use std::os::unix::process::CommandExt;
 use std::process::{Command, Stdio};
 use std::time::Instant;
+use std::{env, fs};
 
 /// A schedule of 65,535 bytes with 32 cells and 16 handlers.
 pub fn largest() -> Vec<u8> {
@@ -20,51 +20,55 @@ pub struct Needed {
     pub memory: u64,
 }
 
-/// The most memory that a process had so far, in KiB; none where it has ended.
-fn peak(process: u32) -> Option<u64> {
-    let status = fs::read_to_string(format!("/proc/{process}/status")).ok()?;
-    let line = status.lines().find(|line| line.starts_with("VmHWM:"))?;
-    line.split_whitespace().nth(1)?.parse().ok()
+extern "C" {
+    /// Waits for a child to end; of its 18 numbers of usage the fifth is the most memory that it had, in KiB.
+    fn wait4(process: i32, status: *mut i32, options: i32, usage: *mut [i64; 18]) -> i32;
 }
 
-/// One run of a program on a schedule file: what it prints, how long it took, and the memory seen between what it printed.
-fn once(program: &str, file: &str, look: bool) -> (Vec<u8>, Needed) {
+/// The most memory that a program had on a schedule file, in KiB, as the system counted it up to the program's end. The count begins
+/// with the process that the program is started from: so it is asked for in a process of its own, by `measure memory`, and the hook,
+/// which does nothing, has the child forked, where it would share its parent's memory up to its start.
+pub fn memory(program: &str, file: &str) -> i64 {
+    let input = fs::File::open(file).expect("the schedule is there");
+    let mut command = Command::new(program);
+    command.stdin(input).stdout(Stdio::null());
+    // SAFETY: the hook does nothing.
+    unsafe { command.pre_exec(|| Ok(())) };
+    let process = command.spawn().expect("the program starts").id() as i32;
+    let (mut status, mut usage) = (0, [0; 18]);
+    // SAFETY: both are as large as the system's own, and the child is waited for here alone.
+    let ended = unsafe { wait4(process, &mut status, 0, &mut usage) };
+    assert!(ended == process && status == 0, "{program} fails");
+    usage[4]
+}
+
+/// The same, asked for in a process of its own.
+fn peak(program: &str, file: &str) -> u64 {
+    let this = env::current_exe().expect("this program has a path");
+    let output = Command::new(this).args(["memory", program, file]).output().expect("this program starts");
+    let text = String::from_utf8(output.stdout).expect("a number");
+    text.trim().parse().expect("a number of KiB")
+}
+
+/// One run of a program on a schedule file: what it prints, and how many nanoseconds it took.
+fn once(program: &str, file: &str) -> (Vec<u8>, f64) {
     let input = fs::File::open(file).expect("the schedule is there");
     let began = Instant::now();
-    let mut child = Command::new(program).stdin(input).stdout(Stdio::piped()).spawn().expect("the program starts");
-    let mut output = child.stdout.take().expect("a pipe");
-    let (mut printed, mut memory) = (Vec::new(), 0);
-    let mut part = [0; 4096];
-    loop {
-        let count = output.read(&mut part).expect("the program prints");
-        if count == 0 {
-            break;
-        }
-        printed.extend(&part[..count]);
-        if look {
-            memory = memory.max(peak(child.id()).unwrap_or(0));
-        }
-    }
-    assert!(child.wait().expect("the program ends").success(), "{program} fails");
-    (printed, Needed { nanoseconds: began.elapsed().as_nanos() as f64, memory })
+    let output = Command::new(program).stdin(input).stderr(Stdio::inherit()).output().expect("the program starts");
+    assert!(output.status.success(), "{program} fails");
+    (output.stdout, began.elapsed().as_nanos() as f64)
 }
 
 const RUNS: u32 = 10;
 
-/// A run in which the memory was seen: a program that ends at once may be gone before it is looked at.
-fn seen(program: &str, file: &str) -> (Vec<u8>, Needed) {
-    let mut looks = (0..100).map(|_| once(program, file, true));
-    looks.find(|(_, needed)| needed.memory > 0).expect("the program was seen while it ran")
-}
-
 /// Two programs on the same file in turns; they have to print the same.
 pub fn beside(programs: [&str; 2], file: &str) -> [Needed; 2] {
-    let looked = programs.map(|program| seen(program, file));
-    assert!(looked[0].0 == looked[1].0, "{} and {} print different lines", programs[0], programs[1]);
-    let mut needed = looked.map(|(_, needed)| Needed { nanoseconds: f64::INFINITY, ..needed });
+    let printed = programs.map(|program| once(program, file).0);
+    assert!(printed[0] == printed[1], "{} and {} print different lines", programs[0], programs[1]);
+    let mut needed = programs.map(|program| Needed { nanoseconds: f64::INFINITY, memory: peak(program, file) });
     for _ in 0..RUNS {
         for (program, needed) in programs.iter().zip(&mut needed) {
-            needed.nanoseconds = needed.nanoseconds.min(once(program, file, false).1.nanoseconds);
+            needed.nanoseconds = needed.nanoseconds.min(once(program, file).1);
         }
     }
     needed

@@ -1,0 +1,49 @@
+-- Files in bytes, and what is printed of them, line by line: document 01's listing, a file refused with 30, one refused with 15, and
+-- order places refused with 11 and with 32. proofs/Listings.antt computes that the runner and the judge print just this.
+use Prim.Native.Nat.{ℕ}
+use Prim.Native.String.{String}
+use mathlib.Core.List.{List, [], _∷_, _++_}
+use Rattle.text.specs.Bytes.{ascii}
+use Rattle.lines.specs.Texts.{newline}
+
+-- A file, and what is printed of it.
+pub record Listing : Type 0 where
+  pub file : List ℕ
+  pub text : List ℕ
+
+-- Lines of letters, each with its end.
+unfoldable pub written : List String → List ℕ
+written [] = []
+written (line ∷ lines) = ascii line ++ newline ++ written lines
+
+-- Document 01's listing: handler 0 is aborted with 1.
+unfoldable pub published : Listing
+published = record {
+  file =
+      2 ∷ 2 ∷ 0 ∷ 14 ∷ 0 ∷ 3 ∷ 0 ∷ 17 ∷ 0 ∷ 12 ∷ 0 ∷ 29 ∷ 0 ∷ 7 ∷
+      0 ∷ 32 ∷ 33 ∷
+      0 ∷ 64 ∷ 0 ∷ 0 ∷ 0 ∷ 5 ∷ 65 ∷ 0 ∷ 0 ∷ 0 ∷ 7 ∷ 1 ∷
+      0 ∷ 0 ∷ 1 ∷ 1 ∷ 1 ∷ 1 ∷ 0 ∷ [];
+  text = written (
+      "handlers 2 cells 2" ∷ "0 0 0 ok" ∷ "1 0 32 value 0" ∷ "2 1 0 ok" ∷ "3 1 64 ok" ∷ "4 1 65 ok" ∷ "5 1 1 commit" ∷
+      "6 0 33 abort 1" ∷ "cell 0 value 5 number 1" ∷ "cell 1 value 7 number 1" ∷ []);
+}
+
+-- A file with no byte.
+unfoldable pub empty : Listing
+empty = record { file = []; text = written ("refused 30" ∷ []) }
+
+-- A script with the unknown code 2, which is not ordered.
+unfoldable pub unknown : Listing
+unknown = record { file = 1 ∷ 1 ∷ 0 ∷ 10 ∷ 0 ∷ 1 ∷ 0 ∷ 11 ∷ 0 ∷ 0 ∷ 2 ∷ []; text = written ("refused 15" ∷ []) }
+
+-- An order that names handler 1 of one handler, and handler 0 once too often.
+unfoldable pub unordered : Listing
+unordered = record {
+  file = 1 ∷ 1 ∷ 0 ∷ 10 ∷ 0 ∷ 1 ∷ 0 ∷ 11 ∷ 0 ∷ 3 ∷ 0 ∷ 0 ∷ 1 ∷ 0 ∷ [];
+  text = written ("handlers 1 cells 1" ∷ "0 0 0 ok" ∷ "1 1 - refused 11" ∷ "2 0 - refused 32" ∷ "cell 0 value 0 number 0" ∷ []);
+}
+
+-- All of them.
+unfoldable pub listings : List Listing
+listings = published ∷ empty ∷ unknown ∷ unordered ∷ []

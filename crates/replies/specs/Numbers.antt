@@ -1,0 +1,20 @@
+-- What is promised of numbers: those of reasons and refusals, and of an answer to a step. Each is the rules' own.
+use Prim.Native.Nat.{ℕ}
+use Rattle.rules.specs.Promise.{Promise, answering}
+use Rattle.rules.specs.steps.Replies as Rules
+use Rattle.rules.specs.steps.Replies.{reasonNumber, refusalNumber, replyNumbers}
+use Rattle.replies.specs.declared.Reason.{Reason}
+use Rattle.replies.specs.declared.Refusal.{Refusal}
+use Rattle.replies.specs.Meaning.{reasonIs, refusalIs}
+
+-- The promise of a reason's number.
+abbrev pub ReasonPromise : Reason → ℕ → Type 0
+ReasonPromise reason number = Promise (answering (λ named. reasonNumber (reasonIs named))) reason number tt
+
+-- The promise of a refusal's number.
+abbrev pub RefusalPromise : Refusal → ℕ → Type 0
+RefusalPromise refusal number = Promise (answering (λ named. refusalNumber (refusalIs named))) refusal number tt
+
+-- The promise of an answer in numbers.
+abbrev pub NumbersPromise : Rules.Reply ℕ → Rules.Numbers → Type 0
+NumbersPromise reply numbers = Promise (answering replyNumbers) reply numbers tt

@@ -1,0 +1,3 @@
+-- The laws of texts in a buffer, and of numbers in decimal.
+pub mod Puts
+pub mod Decimals

@@ -1,0 +1,25 @@
+-- Texts as bytes: letters in ASCII, and numbers in decimal.
+use Prim.Native.Nat.{ℕ, zero, suc, _+_, _/_, _%_}
+use Prim.Native.Char.{code}
+use Prim.Native.String.{String, [] as empty, _∷_ as _before_}
+use mathlib.Core.List.{List, [], _∷_, _++_}
+use lib.Dec.{ltb}
+use Rattle.rules.specs.steps.Tables.{if_then_else_}
+
+-- The bytes of a text, a letter each.
+abbrev pub ascii : String → List ℕ
+ascii empty = []
+ascii (letter before letters) = code letter ∷ ascii letters
+
+-- The byte of a digit.
+abbrev pub digit : ℕ → List ℕ
+digit d = (48 + d) ∷ []
+
+-- A number in decimal, its last digit behind those of a tenth of it, as long as turns are left.
+unfoldable pub spelled : ℕ → ℕ → List ℕ
+spelled zero n = digit n
+spelled (suc turns) n = if ltb n 10 then (digit n) else (spelled turns (n / 10) ++ digit (n % 10))
+
+-- A number in decimal, with no zero in front: it has no more digits than it counts, so the turns are enough.
+abbrev pub decimal : ℕ → List ℕ
+decimal n = spelled n n

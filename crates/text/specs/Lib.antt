@@ -1,0 +1,3 @@
+-- Texts as bytes, and texts in a buffer.
+pub mod Bytes
+pub mod Lies
