@@ -59,7 +59,11 @@ fn worded(reply: Reply) -> (u32, Vec<String>) {
 fn texts_are_the_documents() {
     let others = [Reply::Done, Reply::Value(7), Reply::Committed];
     let replies = others.into_iter().chain(Abort::ALL.map(Reply::Aborted)).chain(Refusal::ALL.map(Reply::Refused));
-    assert_eq!(replies.map(worded).collect::<Vec<_>>(), rows("In words"));
+    let (said, documented) = (replies.map(worded).collect::<Vec<_>>(), rows("In words"));
+    assert_eq!(said.len(), documented.len());
+    for (text, row) in said.into_iter().zip(documented) {
+        assert_eq!(text, row, "left is the library's text, right is docs/REPLIES.md's");
+    }
 }
 
 #[test]
