@@ -1,0 +1,2 @@
+-- What a duty sheet counts of one handler.
+pub mod Counting
