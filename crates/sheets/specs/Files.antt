@@ -66,9 +66,9 @@ RefusedAddsNothing = (words file : List ℕ) (refusal : Refusal) → addRefusal 
 abbrev pub BegunBalances : Type 0
 BegunBalances = (files : List (List ℕ)) (handler : ℕ) → handler < 16
     → let sheet = afterFiles emptySheet files in
-      let count : ℕ → ℕ = λ k. counted sheet handler k in
-      count (column begun) ≡ count (column committed) + (count (column torn) + (count (column overtaken) + count (column spent)))
-      + total (openAtEnd handler) (runsOf emptySheet files)
+    let count : ℕ → ℕ = λ k. counted sheet handler k in
+    count (column begun) ≡ count (column committed) + (count (column torn) + (count (column overtaken) + count (column spent)))
+    + total (openAtEnd handler) (runsOf emptySheet files)
 
 -- NOTHING WRAPS: a file that is not refused leaves each count below 2^32.
 abbrev pub NothingWraps : Type 0
