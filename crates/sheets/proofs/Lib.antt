@@ -1,0 +1,2 @@
+-- The laws of a duty sheet.
+pub mod WithLines
