@@ -1,1 +1,98 @@
-// One handler's counts of a duty sheet, lent and brought up to date where they stand.
+// One handler's counts of a duty sheet, lent and brought up to date where they stand. Internal: called by `sheets` alone.
+ghost use mathlib.Core.Path.{_≡_};
+ghost use Rattle.rules.specs.steps.Replies as Rules;
+ghost use Rattle.replies.specs.Meaning.{outcomeIs, replyIs};
+ghost use Rattle.checks.specs.Meaning.{kindIs};
+ghost use Rattle.counts.specs.Counting.{raised, raisedBy};
+ghost use Rattle.counts.specs.Rows.{oneAt, RaisedAt, RaisedIn, BroughtUp, Room};
+use checks::Kind;
+use checks::kind_of;
+use replies::Answer;
+use replies::Outcome;
+use replies::Reason;
+
+// One handler's counts.
+pub struct Counts {
+    pub begun: u32,
+    pub committed: u32,
+    pub torn: u32,
+    pub overtaken: u32,
+    pub spent: u32,
+}
+
+// Where no count is raised: a column beyond the last.
+const NO_COLUMN: usize = 5;
+
+// The column of the count that a step raises by being done: a begin's alone.
+fn done_column(kind: Kind) -> usize
+    ensures { λ r. ⌜ RaisedAt (raisedBy (kindIs kind) Rules.ok) r ⌝ }
+{
+    match kind {
+        Kind::Begin => 0,
+        Kind::Try => NO_COLUMN,
+        Kind::Read(_) => NO_COLUMN,
+        Kind::Write(_) => NO_COLUMN,
+        Kind::Unknown => NO_COLUMN,
+    }
+}
+
+// The column of the count that an outcome raises: a reason has its own.
+fn outcome_column(kind: Kind, outcome: Outcome) -> usize
+    ensures { λ r. ⌜ RaisedAt (raisedBy (kindIs kind) (outcomeIs outcome)) r ⌝ }
+{
+    match outcome {
+        Outcome::Done => done_column(kind),
+        Outcome::Value(_) => NO_COLUMN,
+        Outcome::Committed => 1,
+        Outcome::Aborted(reason) => match reason {
+            Reason::Torn => 2,
+            Reason::Overtaken => 3,
+            Reason::Spent => 4,
+        },
+    }
+}
+
+// The column of the count that an answer to a step code raises.
+fn raised_column(code: u32, answer: Answer) -> usize
+    ensures { λ r. ⌜ RaisedAt (raised code (replyIs answer)) r ⌝ }
+{
+    match answer {
+        Answer::Reported(report) => {
+            let outcome = report.outcome;
+            outcome_column(kind_of(code), outcome)
+        }
+        Answer::Refused(_) => NO_COLUMN,
+    }
+}
+
+// What a column adds to the count in column k.
+fn one_at(column: usize, k: usize) -> u32
+    ensures { λ r. ⌜ r ≡ oneAt column k ⌝ }
+{
+    if column == k {
+        return 1;
+    }
+    0
+}
+
+// The counts with the one in a column raised.
+fn with_raised(counts: Counts, column: usize) -> Counts
+    requires { ⌜ Room counts ⌝ }
+    ensures { λ r. ⌜ RaisedIn column counts r ⌝ }
+{
+    Counts {
+        begun: counts.begun + one_at(column, 0),
+        committed: counts.committed + one_at(column, 1),
+        torn: counts.torn + one_at(column, 2),
+        overtaken: counts.overtaken + one_at(column, 3),
+        spent: counts.spent + one_at(column, 4),
+    }
+}
+
+// The counts brought up to date with an answer to a step code.
+pub fn brought_up(counts: Counts, code: u32, answer: Answer) -> Counts
+    requires { ⌜ Room counts ⌝ }
+    ensures { λ r. ⌜ BroughtUp (raised code (replyIs answer)) counts r ⌝ }
+{
+    with_raised(counts, raised_column(code, answer))
+}

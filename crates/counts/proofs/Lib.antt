@@ -1,0 +1,2 @@
+-- Laws of the columns of a handler's counts.
+pub mod Columns
