@@ -1,2 +1,5 @@
 -- The laws of a duty sheet.
 pub mod WithLines
+pub mod Full
+pub mod Answers
+pub mod Underway

@@ -12,12 +12,13 @@ use lib.ListN.{length, getD, drop, length-append, length-drop}
 use lib.Seq.{drop-at}
 use borrow.Author.Tests.{eqb-true, eqb-false, ne-eqb, ltb-true, ltb-false}
 use Rattle.rules.specs.steps.Tables.{if_then_else_}
+use Rattle.rules.specs.steps.Replies.{Refusal}
 use Rattle.rules.proofs.steps.Tables.{by}
 use Rattle.layout.specs.Rows.{row, rows, part, Untouched}
 use Rattle.layout.proofs.Rows.{part-at, part-is, row-length, row-at, rows-length, rows-part, rows-cut}
 use Rattle.layout.proofs.Untouched.{drop-after}
 use Rattle.words.specs.Rows.{Changed}
-use Rattle.lines.specs.Lines.{Line}
+use Rattle.lines.specs.Lines.{Line, noStep}
 use Rattle.runs.specs.ByPlaces.{inFront}
 use Rattle.counts.specs.Counting.{isIn, adds}
 use Rattle.sheets.specs.Sheets.{raisedFor, raises, countIn, columns, sheetLong, countAt, counted, withLines}
@@ -73,10 +74,16 @@ module _ (words : List ℕ) (lines : List Line) where
 -- ── Line by line ──────────────────────────────────────────────────────
 
 module _ (handler k : ℕ) where
-  -- A line adds 1 where it raises the count, and else nothing.
-  count-one : (line : Line) → countIn handler k (line ∷ []) ≡ (if raises handler k line then 1 else 0)
+  -- A line of the handler adds what its reply adds,
+  count-own : (line : Line) → eqb (line .handler) handler ≡ true
+      → countIn handler k (line ∷ []) ≡ adds (raisedFor (line .code) (line .reply)) k
   unfolding countIn
-  count-one line = omega arith
+  count-own line own = rw own (omega arith)
+
+  -- and a line of another adds nothing.
+  count-other : (line : Line) → eqb (line .handler) handler ≡ false → countIn handler k (line ∷ []) ≡ 0
+  unfolding countIn
+  count-other line other = rw other (omega arith)
 
   -- A line in front of others is counted with them.
   count-front : (line : Option Line) (lines : List Line)
@@ -92,10 +99,26 @@ module _ (handler k : ℕ) where
   count-most (some line) = by (raises handler k line) (λ e. rw e (omega arith)) (λ e. rw e (omega arith))
 
 module _ (words : List ℕ) (long : sheetLong ≤ length words) where
-  -- With no line the sheet is as it was.
+  -- Lines that raise no count of the sheet leave it as it was.
+  with-still : (lines : List Line) → ((handler k : ℕ) → handler < 16 → k < columns → countIn handler k lines ≡ 0) → words ≡ withLines words lines
+  with-still lines zero = with-is words lines words long (λ handler k inside among. omega (arith, zero handler k inside among)) refl
+
+  -- So does no line,
   pub with-none : words ≡ withLines words []
   unfolding countIn
-  with-none = with-is words [] words long (λ handler k inside among. omega arith) refl
+  with-none = with-still [] (λ handler k inside among. refl)
+
+  -- the line of a place where no step was taken,
+  pub with-no-step : (place handler : ℕ) (refusal : Refusal) → words ≡ withLines words (noStep place handler refusal ∷ [])
+  unfolding isIn
+  with-no-step place handler refusal = with-still (noStep place handler refusal ∷ []) (λ i k inside among. by (eqb handler i)
+      (count-own i k (noStep place handler refusal))
+      (count-other i k (noStep place handler refusal)))
+
+  -- and a line of a handler that has no row.
+  pub with-beyond : (line : Line) → 16 ≤ line .handler → words ≡ withLines words (line ∷ [])
+  with-beyond line beyond = with-still (line ∷ [])
+      (λ handler k inside among. count-other handler k line (ne-eqb (line .handler) handler (omega arith)))
 
   -- A line is counted, and then others: the line is counted in front of them.
   pub with-front : (line : Option Line) (lines : List Line)
@@ -119,11 +142,6 @@ module _ (words : List ℕ) (long : sheetLong ≤ length words) where
         count-front handler k line lines,
       )
 
-  -- A line of a handler that has no row changes nothing.
-  pub with-beyond : (line : Line) → 16 ≤ line .handler → words ≡ withLines words (line ∷ [])
-  with-beyond line beyond = with-is words (line ∷ []) words long
-      (λ handler k inside among. omega (arith, count-one handler k line ∙ rw (ne-eqb (line .handler) handler (omega arith)))) refl
-
   -- Where the row of a line's handler holds what it held and what the line adds, and all else is as it was, the line is counted.
   pub with-row : (line : Line) {after : List ℕ} → line .handler < 16
       → Changed (line .handler * columns) columns (λ k. counted words (line .handler) k + adds (raisedFor (line .code) (line .reply)) k) words after
@@ -142,5 +160,5 @@ module _ (words : List ℕ) (long : sheetLong ≤ length words) where
           (λ e. let is = eqb-true (line .handler) handler e in
           ap (λ (h : ℕ). counted after h k) (sym is) ∙ changed .inside k among
           ∙ ap (λ (h : ℕ). counted words h k + adds (raisedFor (line .code) (line .reply)) k) is
-          ∙ ap (λ (more : ℕ). counted words handler k + more) (sym (count-one handler k line ∙ rw e)))
-          (λ e. omega (arith, elsewhere handler k among (eqb-false (line .handler) handler e), count-one handler k line ∙ rw e))
+          ∙ ap (λ (more : ℕ). counted words handler k + more) (sym (count-own handler k line e)))
+          (λ e. omega (arith, elsewhere handler k among (eqb-false (line .handler) handler e), count-other handler k line e))
