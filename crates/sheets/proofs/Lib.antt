@@ -3,3 +3,5 @@ pub mod WithLines
 pub mod Full
 pub mod Answers
 pub mod Underway
+pub mod Admitted
+pub mod Adds

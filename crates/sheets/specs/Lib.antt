@@ -3,3 +3,4 @@ pub mod Sheets
 pub mod Files
 pub mod Adding
 pub mod Meaning
+pub mod Given

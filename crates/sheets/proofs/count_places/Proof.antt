@@ -7,7 +7,7 @@ use borrow.Author.Needs.{needs}
 use Rattle.schedule.specs.Taking.{atStart}
 use Rattle.runs.specs.Players.{theRegister}
 use Rattle.runs.specs.ByPlaces.{placesFrom}
-use Rattle.sheets.proofs.Underway.{Underway, underway-start, underway-more, underway-end}
+use Rattle.sheets.proofs.Underway.{Underway, underway-start, underway-room, underway-more, underway-end}
 use Rattle.sheets.proofs.count_places.Statement.{statement}
 use Rattle.sheets.proofs.count_places.Tie as tie
 
