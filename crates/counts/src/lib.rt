@@ -96,3 +96,11 @@ pub fn brought_up(counts: Counts, code: u32, answer: Answer) -> Counts
 {
     with_raised(counts, raised_column(code, answer))
 }
+
+// Brings one handler's counts up to date where they stand.
+pub fn bring_up(counts: &mut Counts, code: u32, answer: Answer)
+    requires { ⌜ Room (now counts) ⌝ }
+    ensures { λ _. ⌜ BroughtUp (raised code (replyIs answer)) (now (counts .entry)) (now (counts .exit)) ⌝ }
+{
+    *counts = brought_up(*counts, code, answer);
+}
