@@ -104,3 +104,13 @@ pub fn bring_up(counts: &mut Counts, code: u32, answer: Answer)
 {
     *counts = brought_up(*counts, code, answer);
 }
+
+// The counts brought up to date, lent for it.
+pub fn kept_up(counts: Counts, code: u32, answer: Answer) -> Counts
+    requires { ⌜ Room counts ⌝ }
+    ensures { λ r. ⌜ BroughtUp (raised code (replyIs answer)) counts r ⌝ }
+{
+    let mut kept = counts;
+    bring_up(&mut kept, code, answer);
+    kept
+}
