@@ -17,7 +17,7 @@ use prog.Wp.{Heap, Calls, Loops, WpFn, Tables}
 use ghost.Atoms.{Atoms, sem}
 use contract.Monad.{Fun, fact}
 use contract.Running.{givenOf, tables, tablesOf}
-use types.Kit.{Given, ‵, raw, some, later, _⊛_, _$_, _∵_, !, qed, by, move, keep, use1, use2, use3, split, join, pick, fsplit, fjoin, fpick, fpack}
+use types.Kit.{Given, ‵, raw, some, later, _⊛_, _$_, _∵_, !, qed, by, move, keep, use0, use1, use2, use3, split, join, pick, fsplit, fjoin, fpick, fpack}
 use types.Kit.{feqL, suffices, frame, await, done}
 use types.Run.{look, init, forget, stop, from, load, addr, of-opd, and-then, no-more, assigns, land, returns}
 use types.Run.{enter, alloc1, alloc0, params1, pass1, pass0, free1, free0}
@@ -27,14 +27,14 @@ use sound.WpLaws.{FmC, fmOf, WpFn-mono}
 use denote.RattleType.{owns}
 use denote.Laws.{Is, shows}
 use denote.Memory.{mem, cellAt, partAt, partOf}
-use denote.Plain.{uint-vals, uint-tells, uint-makes}
+use denote.Plain.{uint-vals, uint-tells}
 use denote.Builtin.{u32, unit}
 use denote.Ref.{RefT, MutRef}
 use denote.Lend.{lends-ref, ref-back}
 use denote.Steps.{only, owned, peeks, heard, nothing}
 use denote.Struct.Steps.{spelt}
-use denote.Struct.Laws as LL
-use denote.Enum.Laws as LE
+use denote.Struct.Laws as Struct
+use denote.Enum.Laws as Enum
 use denote.Triple.Entry.{onEntry}
 use denote.Triple.Spec.{Meets, tripleOf}
 use denote.Triple.Statement.{Contract, Triple}
@@ -52,6 +52,7 @@ use Rattle.counts.specs.Counting.{raised}
 use Rattle.counts.specs.Rows.{Room, BroughtUp}
 use Rattle.counts.proofs.Counts as T
 use Rattle.counts.proofs.Counts.Laws as T′
+use Rattle.counts.proofs.Values.{countsVal, countsVals, answerVals, asked, counts-typed, answer-typed, asked-owned}
 use Rattle.counts.proofs.bring_up as bring-up
 use Rattle.counts.proofs.bring_up.Symbol as bring-up-def
 use Rattle.counts.proofs.bring_up.Symbol.{name as #counts·bring-up}
@@ -64,16 +65,6 @@ use Rattle.counts.proofs.kept_up.Code as code
 -- All three are plain.
 abbrev stayed : Stays (f.ended .signature .params) (f.ended .kept)
 stayed = (stay-none (λ _. T.the-row) yes, (stay-none (λ _. u32) yes, (stay-none (λ _. E.the-row) yes, tt)))
-
--- The machine value of counts, as one and as a list, and of an answer.
-abbrev countsVal : Counts → Val
-countsVal = LL.val T.the-type T′.the-laws
-
-abbrev countsVals : Counts → List Val
-countsVals = LL.vals T.the-type T′.the-laws
-
-abbrev answerVals : Answer → List Val
-answerVals = LE.vals E.the-type E′.the-laws
 
 -- A value that is `()` goes into a local of that type.
 fits-unit : (v : Val) → v ∷ [] ≡ vunit ∷ [] → Holds (hasTy tyUnit v) × WT v
@@ -92,7 +83,7 @@ module _ {M : Type 1} (𝓤 : URA M) (H : Heap 𝓤) (A : Atoms 𝓤) (W : Given
   lies-in h b was =
       qed W (‵ (fat fullShare T′.mir b 0 (countsVal h)) ∷ []) ∵
       use1 W (‵ (cellAt fullShare (T.the-row .mir) (countsVals h) b 0)) (W .laws .at-raw fullShare T′.mir b 0 (countsVal h)) $
-      owned ! T.the-row (Is T.the-row) (LL.makes T.the-type T′.the-plain 𝓤 H A) h _ was $ move ! (1 ∷ 0 ∷ []) $ fjoin ! $
+      owned ! T.the-row (Is T.the-row) (Struct.makes T.the-type T′.the-plain 𝓤 H A) h _ was $ move ! (1 ∷ 0 ∷ []) $ fjoin ! $
       fpack ! (List Val) (λ us. fsep (cellAt fullShare (T.the-row .mir) us b 0) (T.the-row .own h us)) (countsVals h) $ done !
 
   -- and back.
@@ -101,7 +92,7 @@ module _ {M : Type 1} (𝓤 : URA M) (H : Heap 𝓤) (A : Atoms 𝓤) (W : Given
   unfolding partOf
   lies-out r b =
       qed W (‵ (partAt T.the-row fullShare r b 0) ∷ []) ∵ fpick ! (λ vs. fsplit ! $
-      spelt ! T.the-row (Is T.the-row) (shows 𝓤 H A T.the-row) countsVals (LL.tells T.the-type T′.the-laws) fullShare r vs b 0 $
+      spelt ! T.the-row (Is T.the-row) (shows 𝓤 H A T.the-row) countsVals (Struct.tells T.the-type T′.the-laws) fullShare r vs b 0 $
       use1 W (‵ (fat fullShare T′.mir b 0 (countsVal r))) (W .laws .raw-at fullShare T′.mir b 0 (countsVal r)) $ done !)
 
 module _ {M : Type 1} (𝓤 : URA M) (H : Heap 𝓤) (A : Atoms 𝓤) (W : Given 𝓤 H A) (at-mem : Memory → SProp 𝓤) (run : Routine → Fun 𝓤)
@@ -124,11 +115,10 @@ module _ {M : Type 1} (𝓤 : URA M) (H : Heap 𝓤) (A : Atoms 𝓤) (W : Given
   exits r up =
       qed W (‵ (T.the-row .own r (countsVals r)) ∷ []) ∵
       suffices ! _ (ends-at 𝓤 H A f.ended stayed (f.clauses 𝓤 H A at-mem run) W
-        ((tt, tt, tt, x, at), tt) (countsVal r) r (tt, (tt, (tt, tt))) (tt, (tt, (tt, tt)))) $
-      says ! up $ nothing ! $ frame ! $ nothing ! $
-      owned ! E.the-row (Is E.the-row) (LE.makes E.the-type E′.the-plain 𝓤 H A) answer _ answer-is $ fjoin ! $
-      owned ! u32 (Is u32) (uint-makes 𝓤 H A W w32) n _ (refl, fits) $ fjoin ! $
-      owned ! T.the-row (Is T.the-row) (LL.makes T.the-type T′.the-plain 𝓤 H A) h _ was $ fjoin ! $ done !
+      ((tt, tt, tt, x, at), tt) (countsVal r) r (tt, (tt, (tt, tt))) (tt, (tt, (tt, tt)))) $
+      says ! up $ nothing ! $ frame ! $
+      use0 W (‵ (asked n answer)) (asked-owned 𝓤 H A W n answer fits answer-is) $
+      owned ! T.the-row (Is T.the-row) (Struct.makes T.the-type T′.the-plain 𝓤 H A) h _ was $ fjoin ! $ done !
 
   -- The reference to the local l under the name δ, what the callee's triple binds outside, and that the walk has what it asks.
   abbrev ref : ℕ → GName → RefT Counts
@@ -145,13 +135,8 @@ module _ {M : Type 1} (𝓤 : URA M) (H : Heap 𝓤) (A : Atoms 𝓤) (W : Given
       → ent 𝓤 (sep 𝓤 (A .lft (α ∷ []) fullShare) (sem 𝓤 H A (lent α l δ))) (Bring 𝓤 H A at-mem run .pre (to-bring α l δ))
   goes-bring α l δ =
       qed W (‵ (flft (α ∷ []) fullShare) ∷ ‵ (lent α l δ) ∷ []) ∵
-      says ! room $ nothing ! $ move ! (1 ∷ 0 ∷ []) $ join ! $ frame ! $ nothing ! $
-      owned ! E.the-row (Is E.the-row) (LE.makes E.the-type E′.the-plain 𝓤 H A) answer _ answer-is $ fjoin ! $
-      owned ! u32 (Is u32) (uint-makes 𝓤 H A W w32) n _ (refl, fits) $ fjoin ! $ move ! (1 ∷ 0 ∷ []) $ fjoin ! $ done !
-
-  -- Counts in a local have the struct's MIR type.
-  typed : (r : Counts) → Is T.the-row r (countsVals r) → Holds (hasTy T′.mir (countsVal r)) × WT (countsVal r)
-  typed r is = LL.lawful T.the-type T′.the-laws 𝓤 H A W .typed r _ is .0
+      says ! room $ nothing ! $ move ! (1 ∷ 0 ∷ []) $ join ! $ frame ! $
+      use0 W (‵ (asked n answer)) (asked-owned 𝓤 H A W n answer fits answer-is) $ move ! (1 ∷ 0 ∷ []) $ fjoin ! $ done !
 
   module _ (C : Calls 𝓤 H) (Λ : Loops 𝓤 H) (fm : FmC 𝓤 H (W .laws) C) (known : Triple 𝓤 (C #counts·bring-up) (Bring 𝓤 H A at-mem run)) where
     walk : ent 𝓤 (onEntry 𝓤 H A f.signature tt tt x at)
@@ -160,27 +145,27 @@ module _ {M : Type 1} (𝓤 : URA M) (H : Heap 𝓤) (A : Atoms 𝓤) (W : Given
         qed W (‵ ftrue ∷ ‵ (owns (T.the-row ∷ u32 ∷ E.the-row ∷ []) x at) ∷ []) ∵ keep ! [] $
         enter ! C Λ code.function (countsVal h ∷ vint w32 n ∷ answerVals answer) _ $
         alloc1 ! (λ l₀. alloc1 ! (λ l₁. alloc1 ! (λ l₂. alloc1 ! (λ l₃. alloc1 ! (λ l₄. alloc1 ! (λ l₅. alloc1 ! (λ l₆. alloc0 ! $ params1 ! $
-        pass1 ! (init ! 10 refl (typed h was)) $ pass1 ! (init ! 8 refl (tt, record { fits = fits })) $
-        pass1 ! (init ! 6 refl (LE.lawful E.the-type E′.the-laws 𝓤 H A W tt .typed answer _ answer-is .0)) $ pass0 ! $
+        pass1 ! (init ! 10 refl (counts-typed 𝓤 H A W h _ was)) $ pass1 ! (init ! 8 refl (tt, record { fits = fits })) $
+        pass1 ! (init ! 6 refl (answer-typed 𝓤 H A W answer _ answer-is)) $ pass0 ! $
         -- [_6; …; _5; …; _4; …; _3; …; _2; …; _1; …; room for _0; …]
-        assigns ! (of-opd ! (load ! (from ! (stop !)) (look ! 10 refl))) (from ! (stop !)) (init ! 4 refl (typed h was)) $
+        assigns ! (of-opd ! (load ! (from ! (stop !)) (look ! 10 refl))) (from ! (stop !)) (init ! 4 refl (counts-typed 𝓤 H A W h _ was)) $
         assigns ! (addr ! (from ! (stop !))) (from ! (stop !)) (init ! 0 refl (tt, tt)) $
         -- _4 is lent for a new lifetime
         move ! (4 ∷ []) $ use1 W (‵ (partAt T.the-row fullShare h l₄ 0)) (lies-in 𝓤 H A W h l₄ was) $
         lft-new ! tt (λ α. move ! (1 ∷ []) $
         use1 W (later (some (λ (δ : GName). ‵ (lent α l₄ δ) ⊛ ‵ (flent (α ∷ []) (Body (mem T.the-row) l₄ 0 δ)))))
-          (lends-ref 𝓤 H A W T.the-row (named 0) (α ∷ []) h l₄ 0) $
+        (lends-ref 𝓤 H A W T.the-row (named 0) (α ∷ []) h l₄ 0) $
         await ! tt $ pick ! (λ δ. split ! $ move ! (2 ∷ 0 ∷ []) $
         use2 W (raw (Bring 𝓤 H A at-mem run .pre (to-bring α l₄ δ))) (goes-bring α l₄ δ) $
         -- [what is asked; the lender's part; _6; …; _5; …; what frees _4; _3; …; _2; …; _1; …; room for _0; …]
         calls-at ! fm (Bring 𝓤 H A at-mem run) known (to-bring α l₄ δ)
-          (and-then ! (load ! (from ! (stop !)) (look ! 2 refl)) (and-then ! (load ! (from ! (stop !)) (look ! 9 refl))
-          (and-then ! (load ! (from ! (stop !)) (look ! 7 refl)) (no-more !)))) (λ v.
+        (and-then ! (load ! (from ! (stop !)) (look ! 2 refl)) (and-then ! (load ! (from ! (stop !)) (look ! 9 refl))
+        (and-then ! (load ! (from ! (stop !)) (look ! 7 refl)) (no-more !)))) (λ v.
         use1 W (later (some (λ (u : Unit {0}). ((‵ (flft (α ∷ []) fullShare) ⊛ ‵ ftrue) ⊛ ‵ (unit .own u (v ∷ [])))
-          ⊛ raw (ensured 𝓤 H A bring-up.ended (bring-up.clauses 𝓤 H A at-mem run) (α ∷ [], tt) (ref l₄ δ, (n, (answer, tt))) tt u)))) (id⊢ 𝓤 _) $
+        ⊛ raw (ensured 𝓤 H A bring-up.ended (bring-up.clauses 𝓤 H A at-mem run) (α ∷ [], tt) (ref l₄ δ, (n, (answer, tt))) tt u)))) (id⊢ 𝓤 _) $
         await ! tt $ pick ! (λ u. split ! $ move ! (1 ∷ []) $
         use1 W (some (λ (ws : Counts × (Unit {0} × (Unit {0} × Unit {0}))).
-          ‵ (lasts bring-up.ended (α ∷ [], tt) (ref l₄ δ, (n, (answer, tt))) ws) ⊛ raw (fact 𝓤 (Up (ws .0))))) (id⊢ 𝓤 _) $
+        ‵ (lasts bring-up.ended (α ∷ [], tt) (ref l₄ δ, (n, (answer, tt))) ws) ⊛ raw (fact 𝓤 (Up (ws .0))))) (id⊢ 𝓤 _) $
         pick ! (λ ws. split ! $ move ! (1 ∷ []) $ heard ! (Up (ws .0)) (λ up. fsplit ! $ move ! (2 ∷ []) $ split ! $ split ! $ move ! (2 ∷ []) $ feqL ! (λ e.
         -- [the token; true; the last value; …; the lender's part; _6; …; _5; …; what frees _4; _3; …; _2; …; _1; …; room for _0; …]
         land ! (from ! (stop !)) (init ! 7 refl (fits-unit v e)) $
@@ -190,8 +175,9 @@ module _ {M : Type 1} (𝓤 : URA M) (H : Heap 𝓤) (A : Atoms 𝓤) (W : Given
         use1 W (‵ (fat fullShare T′.mir l₄ 0 (countsVal (ws .0))) ⊛ ‵ (T.the-row .own (ws .0) (countsVals (ws .0)))) (lies-out 𝓤 H A W (ws .0) l₄) $
         split ! $ move ! (1 ∷ []) $ peeks ! T.the-row (Is T.the-row) (shows 𝓤 H A T.the-row) (ws .0) (countsVals (ws .0)) (λ is.
         -- [what the counts own; _4; true; …; _6; …; _5; …; what frees _4; _3; …; _2; …; _1; …; room for _0; …]
-        assigns ! (of-opd ! (load ! (from ! (stop !)) (look ! 1 refl))) (from ! (stop !)) (init ! 15 refl (typed (ws .0) is)) $
-        returns ! (look ! 15 refl) $ forget ! 1 refl $ forget ! 4 refl $ forget ! 6 refl $ forget ! 9 refl $ forget ! 11 refl $ forget ! 13 refl $ forget ! 15 refl $
+        assigns ! (of-opd ! (load ! (from ! (stop !)) (look ! 1 refl))) (from ! (stop !)) (init ! 15 refl (counts-typed 𝓤 H A W (ws .0) _ is)) $
+        returns ! (look ! 15 refl) $ forget ! 1 refl $ forget ! 4 refl $ forget ! 6 refl $ forget ! 9 refl $ forget ! 11 refl $
+        forget ! 13 refl $ forget ! 15 refl $
         move ! (15 ∷ 16 ∷ []) $ free1 ! $ move ! (13 ∷ 14 ∷ []) $ free1 ! $ move ! (11 ∷ 12 ∷ []) $ free1 ! $ move ! (9 ∷ 10 ∷ []) $ free1 ! $
         move ! (1 ∷ 8 ∷ []) $ free1 ! $ move ! (5 ∷ 6 ∷ []) $ free1 ! $ move ! (3 ∷ 4 ∷ []) $ free1 ! $ free0 ! $
         keep ! (0 ∷ []) $ by ! (exits (ws .0) up))))))))))))))))
@@ -202,13 +188,18 @@ module _ {M : Type 1} (𝓤 : URA M) (H : Heap 𝓤) (A : Atoms 𝓤) (W : Given
   kept-up-walks C Λ fm known =
       walked 𝓤 H A f.ended stayed (f.clauses 𝓤 H A at-mem run) (WpFn 𝓤 H C Λ code.function)
       (λ κs. (countsVals, (uint-vals w32, (answerVals, tt))))
-      (λ κs. (LL.tells T.the-type T′.the-laws, (uint-tells w32, (LE.tells E.the-type E′.the-laws, tt))))
+      (λ κs. (Struct.tells T.the-type T′.the-laws, (uint-tells w32, (Enum.tells E.the-type E′.the-laws, tt))))
       (λ κs qs bounds a _ are. needs 𝓤 (Room (a .0)) _ (λ room.
       walk 𝓤 H A W at-mem run (a .0) (a .1 .0) (a .1 .1 .0) (are .0) (are .1 .0 .1) (are .1 .1 .0) room C Λ fm known))
 
   goes : AllGo 𝓤 H A W 0 (f.signature .params) (f.ended .kept) stayed
-  goes = (goes-none 𝓤 H A W 0 (λ _. T.the-row) yes (λ κs x f. refl), (goes-none 𝓤 H A W 0 (λ _. u32) yes (λ κs x f. refl),
-    (goes-none 𝓤 H A W 0 (λ _. E.the-row) yes (λ κs x f. refl), tt)))
+  goes = (
+    goes-none 𝓤 H A W 0 (λ _. T.the-row) yes (λ κs x f. refl),
+    (
+      goes-none 𝓤 H A W 0 (λ _. u32) yes (λ κs x f. refl),
+      (goes-none 𝓤 H A W 0 (λ _. E.the-row) yes (λ κs x f. refl), tt),
+    ),
+  )
 
 kept-up-meets : {M : Type 1} (𝓤 : URA M) (H : Heap 𝓤) (A : Atoms 𝓤) → Given 𝓤 H A → (at-mem : Memory → SProp 𝓤) (run : Routine → Fun 𝓤)
     (𝓣 : Tables 𝓤 H) → Triple 𝓤 (𝓣 .C #counts·bring-up) (Bring 𝓤 H A at-mem run)
@@ -225,4 +216,4 @@ kept-up-spec 𝓤 H 𝓜 𝓖 𝓡 =
     (tables 𝓤 H 𝓜 𝓡 code.env .C) (tables 𝓤 H 𝓜 𝓡 code.env .Λ) #counts·kept-up code.function (code.unfolded 𝓤 H 𝓜 𝓡)
     (kept-up-meets 𝓤 H (𝓖 .A) (givenOf 𝓤 H 𝓜 𝓖) (𝓜 .mem) (𝓡 .run) (tablesOf 𝓤 H 𝓜 (tables 𝓤 H 𝓜 𝓡 code.env))
     (cited 𝓤 H (Bring 𝓤 H (𝓖 .A) (𝓜 .mem) (𝓡 .run)) 𝓜 𝓡 code.env #counts·bring-up bring-up-def.routine code.calls-counts·bring-up
-      (bring-up-thm.met 𝓤 H 𝓜 𝓖 𝓡)))
+    (bring-up-thm.met 𝓤 H 𝓜 𝓖 𝓡)))
