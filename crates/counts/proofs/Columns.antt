@@ -15,10 +15,10 @@ pub at-count : (count : Count) → RaisedAt (some count) (column count)
 unfolding isIn
 at-count count = record { shown = λ k small. refl }
 
--- Where none is raised, no column of the five is.
-pub at-none : RaisedAt none 5
+-- Where none is raised, the column is beyond the five.
+pub at-none : {beyond : ℕ} → 5 ≤ beyond → RaisedAt none beyond
 unfolding isIn
-at-none = record { shown = λ k small. ne-eqb 5 k (omega arith) }
+at-none {beyond} far = record { shown = λ k small. ne-eqb beyond k (omega arith) }
 
 -- What holds of each of the five columns holds of all.
 pub each-column : (P : ℕ → Type 0) → P 0 → P 1 → P 2 → P 3 → P 4 → (k : ℕ) → k < 5 → P k
