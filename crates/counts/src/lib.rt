@@ -1,10 +1,9 @@
 // One handler's counts of a duty sheet, lent and brought up to date where they stand. Internal: called by `sheets` alone.
-ghost use mathlib.Core.Path.{_≡_};
 ghost use Rattle.rules.specs.steps.Replies as Rules;
 ghost use Rattle.replies.specs.Meaning.{outcomeIs, replyIs};
 ghost use Rattle.checks.specs.Meaning.{kindIs};
 ghost use Rattle.counts.specs.Counting.{raised, raisedBy};
-ghost use Rattle.counts.specs.Rows.{oneAt, RaisedAt, RaisedIn, BroughtUp, Room};
+ghost use Rattle.counts.specs.Rows.{RaisedAt, AddedAt, RaisedIn, BroughtUp, Room};
 use checks::Kind;
 use checks::kind_of;
 use replies::Answer;
@@ -67,7 +66,7 @@ fn raised_column(code: u32, answer: Answer) -> usize
 
 // What a column adds to the count in column k.
 fn one_at(column: usize, k: usize) -> u32
-    ensures { λ r. ⌜ r ≡ oneAt column k ⌝ }
+    ensures { λ r. ⌜ AddedAt column k r ⌝ }
 {
     if column == k {
         return 1;
