@@ -1,4 +1,5 @@
 -- `counts::done_column` meets its contract: a begin that is done raises begun, and another step none.
+use native.Mathlib.Omega.{arith}
 use borrow.Author.Needs.{needs}
 use Rattle.counts.specs.Counting.{begun, raisedBy}
 use Rattle.counts.proofs.Columns.{at-count, at-none}
@@ -16,7 +17,7 @@ done-column-spec =
     (λ c. search needs)
     (λ c. search needs)
     (λ c. rw (c .enum-told .given .1) (at-count begun))
-    (λ c. rw (c .enum-told2 .given .1) at-none)
-    (λ c. rw (c .enum-told3 .given .1) at-none)
-    (λ c. rw (c .enum-told4 .given .1) at-none)
-    (λ c. rw (c .enum-told5 .given .1) at-none))
+    (λ c. rw (c .enum-told2 .given .1) (at-none (omega arith)))
+    (λ c. rw (c .enum-told3 .given .1) (at-none (omega arith)))
+    (λ c. rw (c .enum-told4 .given .1) (at-none (omega arith)))
+    (λ c. rw (c .enum-told5 .given .1) (at-none (omega arith))))

@@ -1,4 +1,5 @@
 -- `counts::raised_column` meets its contract: a report raises what its outcome does, and a refusal none.
+use native.Mathlib.Omega.{arith}
 use borrow.Author.Needs.{needs}
 use Rattle.counts.specs.Counting.{raised}
 use Rattle.counts.proofs.Columns.{at-none}
@@ -15,4 +16,4 @@ raised-column-spec =
     (λ c κs. search needs)
     (λ c. search needs)
     (λ c. rw (c .before .before .before .answer .given .1, ← c .before .kind-of .ensures .replied) (c .outcome-column .ensures))
-    (λ c. rw (c .enum-told .given .1) at-none))
+    (λ c. rw (c .enum-told .given .1) (at-none (omega arith))))
