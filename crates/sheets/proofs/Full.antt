@@ -34,5 +34,8 @@ module _ (words : List ℕ) where
   -- and in any other each count is at most that.
   pub full-none : isFull words ≡ false → sheetLong ≤ length words → CountsTo fullAbove words
   unfolding isFull
-  full-none free long = record { long = long; each = λ handler k inside among. ltb-false fullAbove (getD words (countAt handler k) 0)
-      (some-false sheetLong (λ y. ltb fullAbove (getD words y 0)) free (countAt handler k) (omega arith)) }
+  full-none free long = record {
+    long = long;
+    each = λ handler k inside among. ltb-false fullAbove (getD words (countAt handler k) 0)
+        (some-false sheetLong (λ y. ltb fullAbove (getD words y 0)) free (countAt handler k) (omega arith));
+  }

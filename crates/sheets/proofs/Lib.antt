@@ -5,3 +5,4 @@ pub mod Answers
 pub mod Underway
 pub mod Admitted
 pub mod Adds
+pub mod Tight

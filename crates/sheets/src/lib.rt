@@ -80,7 +80,7 @@ fn count_answer(sheet: &mut [u32], handler: u8, code: u8, answer: Answer)
     }
     let at = places::sheet_row(i);
     let counts = counts_at(sheet, at);
-    put_counts(sheet, at, counts::brought_up(counts, code as u32, answer));
+    put_counts(sheet, at, counts::kept_up(counts, code as u32, answer));
 }
 
 // Counts what a place shows: the answer to a step, and nothing where no step was taken.

@@ -21,5 +21,5 @@ count-answer-spec =
     -- and are put back
     (λ c. let row = c .before .before .before .before .before .before .before in
     let read = c .before .before .before .before .before .counts-at .ensures in
-    answer-counted (row .before .before .before .pre) (omega arith) (row .sheet-row .ensures) read (c .before .before .before .brought-up .ensures)
+    answer-counted (row .before .before .before .pre) (omega arith) (row .sheet-row .ensures) read (c .before .before .before .kept-up .ensures)
     (c .before .before .put-counts .ensures)))
