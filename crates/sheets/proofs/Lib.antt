@@ -1,0 +1,2 @@
+-- The laws of a duty sheet, in the order in which they are best read.
+pub mod Counts
