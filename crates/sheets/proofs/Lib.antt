@@ -1,2 +1,4 @@
 -- The laws of a duty sheet, in the order in which they are best read.
 pub mod Counts
+pub mod Wraps
+pub mod Balance
