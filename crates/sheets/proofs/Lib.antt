@@ -2,3 +2,4 @@
 pub mod Counts
 pub mod Wraps
 pub mod Balance
+pub mod Files
