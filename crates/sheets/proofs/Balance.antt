@@ -2,10 +2,9 @@
 -- open afterwards; so it does over all order bytes of a file.
 use Prim.Native.Nat.{ℕ, _+_}
 use native.Mathlib.Omega.{arith}
-use mathlib.Core.Path.{_≡_, refl, sym, ap, _∙_, subst}
-use mathlib.Core.Bool.{Bool, true, false}
+use mathlib.Core.Path.{_≡_, refl, sym, ap}
+use mathlib.Core.Bool.{Bool, true}
 use mathlib.Core.List.{List, [], _∷_}
-use mathlib.Core.Option.{Option, none, some}
 use lib.Dec.{eqb, leb}
 use borrow.Author.Tests.{eqb-true, eqb-false}
 use Rattle.rules.specs.steps.Tables.{if_then_else_, put}
@@ -25,7 +24,7 @@ use Rattle.lines.specs.Lines.{Line, noStep, stepLine}
 use Rattle.schedule.specs.Sound.{orderIn}
 use Rattle.schedule.specs.Scripts.{ScriptStep}
 use Rattle.schedule.specs.Admitting.{Admission, admissionOf}
-use Rattle.runs.specs.ByRules.{RunState, PlaceRun, nextAsked, ordered, runFrom, started, playedBy, runOf}
+use Rattle.runs.specs.ByRules.{RunState, nextAsked, ordered, runFrom, started, playedBy, runOf}
 use Rattle.counts.specs.Counting.{column, begun, committed, torn, overtaken, spent, raisedBy, raised, isIn, adds}
 use Rattle.sheets.specs.Sheets.{raisedFor, raises, countIn}
 use Rattle.sheets.specs.Files.{replies, openAtEnd}

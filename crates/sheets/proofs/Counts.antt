@@ -2,12 +2,11 @@
 -- that is not, leave of a sheet; and each count over many files.
 use Prim.Native.Nat.{ℕ, _+_, _*_, _-_, _≤_, _<_}
 use native.Mathlib.Omega.{arith}
-use mathlib.Core.Path.{_≡_, refl, sym, ap, _∙_}
+use mathlib.Core.Path.{_≡_, sym, ap, _∙_}
 use mathlib.Core.List.{List, [], _∷_, _++_}
-use mathlib.Core.Option.{Option, none, some}
+use mathlib.Core.Option.{none}
 use lib.ListN.{length, getD, drop, length-append, length-drop}
 use lib.Seq.{getD-append-add, getD-drop}
-use Rattle.rules.specs.steps.Replies.{Refusal}
 use Rattle.rules.proofs.steps.Tables.{found}
 use Rattle.layout.specs.Rows.{row, rows}
 use Rattle.layout.proofs.Rows.{part-at, row-at, row-length, rows-length, rows-part}

@@ -1,9 +1,8 @@
 -- What was begun balances over many files: the runs of a sheet are each the run of a file, each of them balances, and so do all together.
-use Prim.Native.Nat.{ℕ, _+_, _<_}
+use Prim.Native.Nat.{ℕ, _<_}
 use native.Mathlib.Omega.{arith}
 use mathlib.Core.Path.{_≡_}
 use mathlib.Core.List.{List, [], _∷_}
-use mathlib.Core.Option.{none, some}
 use Rattle.rules.proofs.steps.Tables.{found}
 use Rattle.layout.proofs.Rows.{row-at, row-length}
 use Rattle.runs.specs.ByRules.{Played, runOf}
@@ -34,12 +33,22 @@ runs-balance words files j =
 pub counts-from-none : (files : List (List ℕ)) (handler k : ℕ) → handler < 16 → k < columns
     → counted (afterFiles emptySheet files) handler k ≡ total (replies handler k) (runsOf emptySheet files)
 counts-from-none files handler k inside below =
-    omega (arith, counts-replies emptySheet files handler k (omega (arith, row-length sheetLong (λ _. 0))) inside below,
-    row-at sheetLong (λ _. 0) (countAt handler k) (omega arith))
+    omega (
+      arith,
+      counts-replies emptySheet files handler k (omega (arith, row-length sheetLong (λ _. 0))) inside below,
+      row-at sheetLong (λ _. 0) (countAt handler k) (omega arith),
+    )
 
 -- From an empty sheet, what was begun was committed, was aborted, or was open at a run's end.
 pub begun-balances : BegunBalances
 begun-balances files handler inside =
     let count : (k : ℕ) → k < columns → _ = λ k. counts-from-none files handler k inside in
-    omega (arith, runs-balance emptySheet files handler, count 0 (omega arith), count 1 (omega arith), count 2 (omega arith),
-    count 3 (omega arith), count 4 (omega arith))
+    omega (
+      arith,
+      runs-balance emptySheet files handler,
+      count 0 (omega arith),
+      count 1 (omega arith),
+      count 2 (omega arith),
+      count 3 (omega arith),
+      count 4 (omega arith),
+    )

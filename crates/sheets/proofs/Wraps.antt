@@ -1,14 +1,13 @@
 -- Nothing wraps: a file that is not refused finds a sheet whose counts are low, and has too few order bytes to lift one of them to 2^32.
-use Prim.Native.Nat.{ℕ, _+_, _≤_}
+use Prim.Native.Nat.{ℕ, _+_, _≤_, _<_}
 use native.Mathlib.Omega.{arith}
-use mathlib.Core.Path.{_≡_, refl, ap, _∙_}
-use mathlib.Core.Bool.{Bool, true, false}
+use mathlib.Core.Path.{_≡_, refl}
+use mathlib.Core.Bool.{false}
 use mathlib.Core.List.{List, [], _∷_, _++_}
 use mathlib.Core.Option.{none}
 use lib.ListN.{length, getD}
 use lib.Dec.{ltb}
 use borrow.Author.Tests.{ltb-false}
-use Rattle.rules.specs.steps.Tables.{if_then_else_}
 use Rattle.rules.specs.steps.Replies.{tooShort, sheetFull}
 use Rattle.rules.specs.steps.Checks.{Check, _when_, firstHit}
 use Rattle.rules.proofs.steps.Given.{none-holds}
@@ -25,12 +24,6 @@ use Rattle.sheets.proofs.Counts.{lines-counted, free-adds}
 
 -- ── A file that is not refused ────────────────────────────────────────
 
--- What is known where no check refuses a file: the words are a sheet's, the file is let through, and the sheet is not full.
-pub record Free (words file : List ℕ) : Type 0 where
-  pub enough : sheetLong ≤ length words
-  pub good : fileRefusal file ≡ none
-  pub low : isFull words ≡ false
-
 -- Where no check of two lists holds, none of the first holds and none of the second.
 none-of-both : {A : Type 0} (first second : List (Check A)) → firstHit (first ++ second) ≡ none
     → (firstHit first ≡ none) × (firstHit second ≡ none)
@@ -41,8 +34,14 @@ none-of-both (check ∷ first) second e =
     let (here, there) = none-of-both first second others in
     (rw fails here, there)
 
--- It is known where no check refuses.
-pub free-file : (words file : List ℕ) → addRefusal words file ≡ none → Free words file
+-- What is known where no check refuses a file: the words are a sheet's, the file is let through, and the sheet is not full.
+pub record FreeFile (words file : List ℕ) : Type 0 where
+  pub enough : sheetLong ≤ length words
+  pub good : fileRefusal file ≡ none
+  pub low : isFull words ≡ false
+
+-- So much is known of every file that no check refuses.
+pub free-file : (words file : List ℕ) → addRefusal words file ≡ none → FreeFile words file
 unfolding addRefusal addChecks fileRefusal
 free-file words file free =
     let last = (sheetFull when isFull words) ∷ [] in
@@ -78,9 +77,9 @@ lines-few file good =
 -- ── Counts ────────────────────────────────────────────────────────────
 
 -- Each count of a sheet that is not full is low.
-pub counts-low : (words : List ℕ) → isFull words ≡ false → (place : ℕ) → place ≤ 79 → getD words place 0 ≤ fullAbove
+pub counts-low : (words : List ℕ) → isFull words ≡ false → (place : ℕ) → place < sheetLong → getD words place 0 ≤ fullAbove
 unfolding isFull
-counts-low words low place inside = ltb-false fullAbove (getD words place 0) (some-false sheetLong _ low place (omega arith))
+counts-low words low place inside = ltb-false fullAbove (getD words place 0) (some-false sheetLong _ low place inside)
 
 -- A file that is not refused leaves each count below 2^32.
 pub nothing-wraps : NothingWraps
@@ -88,5 +87,10 @@ nothing-wraps words file handler k free inside below =
     let given = free-file words file free in
     let lines = linesOf (runOf file) in
     rw (free-adds words file free)
-    (omega (arith, lines-counted words lines handler k inside below, count-most handler k lines, lines-few file (given .good),
-    counts-low words (given .low) (countAt handler k) (omega arith)))
+    (omega (
+      arith,
+      lines-counted words lines handler k inside below,
+      count-most handler k lines,
+      lines-few file (given .good),
+      counts-low words (given .low) (countAt handler k) (omega arith),
+    ))
