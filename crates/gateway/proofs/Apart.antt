@@ -5,7 +5,7 @@ use mathlib.Core.Path.{_≡_, refl, sym, ap}
 use mathlib.Core.Option.{none}
 use Rattle.rules.specs.steps.Replies.{torn, overtaken, spent, Outcome, ok, value, committed, aborted, Refusal, Reply, reported, Opening, ready}
 use Rattle.rules.specs.steps.Replies.{notWellFormed, noHandler, noCell, alreadyOpen, notOpen, unknownStep, outOfRange, tooShort}
-use Rattle.rules.specs.steps.Replies.{badFile, usedUp, tooManyCommits}
+use Rattle.rules.specs.steps.Replies.{badFile, usedUp, tooManyCommits, sheetFull}
 use Rattle.rules.specs.steps.Replies.{Numbers, refusalNumber, outcomeNumbers, refusalNumbers, replyNumbers}
 use Rattle.rules.specs.demand.Demand.{reportedTo}
 use Rattle.rules.specs.steps.Checks.{inRange}
@@ -72,6 +72,7 @@ refusal-between tooShort = omega arith
 refusal-between badFile = omega arith
 refusal-between usedUp = omega arith
 refusal-between tooManyCommits = omega arith
+refusal-between sheetFull = omega arith
 
 -- What was answered can be told from the number.
 pub step-told : {handler code : ℕ} {a b : Reply ℕ} → AnswerTo handler code a → AnswerTo handler code b

@@ -1,0 +1,3 @@
+-- The duty sheet over many schedule files, in the order in which it is best read.
+pub mod Sheets
+pub mod Files

@@ -1,0 +1,1 @@
+// The duty sheet over many schedule files.
