@@ -5,22 +5,24 @@ use mathlib.Core.Path.{_≡_, refl}
 use mathlib.Core.Bool.{false}
 use mathlib.Core.List.{List, [], _∷_, _++_}
 use mathlib.Core.Option.{none}
-use lib.ListN.{length, getD}
+use lib.ListN.{length}
 use lib.Dec.{ltb}
 use borrow.Author.Tests.{ltb-false}
 use Rattle.rules.specs.steps.Replies.{tooShort, sheetFull}
 use Rattle.rules.specs.steps.Checks.{Check, _when_, firstHit}
 use Rattle.rules.proofs.steps.Given.{none-holds}
-use Rattle.rules.proofs.steps.Tables.{by, some-false}
+use Rattle.rules.proofs.steps.Tables.{by}
 use Rattle.lines.specs.Lines.{Line}
 use Rattle.schedule.specs.Sound.{handlersIn, cellsIn, tableStart, orderIn}
 use Rattle.schedule.specs.Admitting.{fileChecks, fileRefusal, admitted, admissionOf}
 use Rattle.schedule.proofs.Sounds.{body-short}
 use Rattle.schedule.proofs.Admits.{good-exactly}
 use Rattle.runs.specs.ByRules.{RunState, ordered, runFrom, started, playedBy, runOf}
-use Rattle.sheets.specs.Sheets.{raises, countIn, linesOf, sheetLong, countAt, fullAbove, isFull, addChecks, addRefusal}
+use Rattle.sheets.specs.Sheets.{raises, countIn, linesOf, sheetLong, isFull, addChecks, addRefusal}
 use Rattle.sheets.specs.Files.{NothingWraps}
-use Rattle.sheets.proofs.Counts.{lines-counted, free-adds}
+use Rattle.sheets.proofs.WithLines.{counted-with}
+use Rattle.sheets.proofs.Full.{full-none}
+use Rattle.sheets.proofs.Counts.{free-adds}
 
 -- ── A file that is not refused ────────────────────────────────────────
 
@@ -52,12 +54,12 @@ free-file words file free =
 -- ── Lines ─────────────────────────────────────────────────────────────
 
 -- Of some lines no more raise a count than there are.
-pub count-most : (handler k : ℕ) (lines : List Line) → countIn handler k lines ≤ length lines
+pub counts-few : (handler k : ℕ) (lines : List Line) → countIn handler k lines ≤ length lines
 unfolding countIn
-count-most handler k [] = omega arith
-count-most handler k (line ∷ lines) = by (raises handler k line)
-    (λ e. rw e (omega (arith, count-most handler k lines)))
-    (λ e. rw e (omega (arith, count-most handler k lines)))
+counts-few handler k [] = omega arith
+counts-few handler k (line ∷ lines) = by (raises handler k line)
+    (λ e. rw e (omega (arith, counts-few handler k lines)))
+    (λ e. rw e (omega (arith, counts-few handler k lines)))
 
 -- A run has a line for each order byte.
 pub run-long : (m n : ℕ) (s : RunState) (place : ℕ) (order : List ℕ) → length (runFrom m n s place order .lines) ≡ length order
@@ -76,11 +78,6 @@ lines-few file good =
 
 -- ── Counts ────────────────────────────────────────────────────────────
 
--- Each count of a sheet that is not full is low.
-pub counts-low : (words : List ℕ) → isFull words ≡ false → (place : ℕ) → place < sheetLong → getD words place 0 ≤ fullAbove
-unfolding isFull
-counts-low words low place inside = ltb-false fullAbove (getD words place 0) (some-false sheetLong _ low place inside)
-
 -- A file that is not refused leaves each count below 2^32.
 pub nothing-wraps : NothingWraps
 nothing-wraps words file handler k free inside below =
@@ -89,8 +86,8 @@ nothing-wraps words file handler k free inside below =
     rw (free-adds words file free)
     (omega (
       arith,
-      lines-counted words lines handler k inside below,
-      count-most handler k lines,
+      counted-with words lines handler k inside below,
+      counts-few handler k lines,
       lines-few file (given .good),
-      counts-low words (given .low) (countAt handler k) (omega arith),
+      full-none words (given .low) (given .enough) .each handler k inside below,
     ))
