@@ -31,8 +31,8 @@ static uint64_t take(struct depot *depot, uint32_t handler, uint32_t code, uint3
     const uint64_t reply = zidlemowo_step(depot->words, LENGTH, handler, code, value);
     const bool may_abort = expected == ZIDLEMOWO_VALUE || expected == ZIDLEMOWO_COMMIT;
     if (zidlemowo_kind(reply) != expected && !(may_abort && aborted(reply))) {
-        fprintf(stderr, "handler %" PRIu32 ", code %" PRIu32 ": kind %" PRIu32 ", detail %" PRIu32 "\n", handler, code,
-                zidlemowo_kind(reply), zidlemowo_detail(reply));
+        fprintf(stderr, "handler %" PRIu32 ", code %" PRIu32 ": %s\n", handler, code,
+                zidlemowo_text(zidlemowo_kind(reply), zidlemowo_detail(reply)));
         exit(EXIT_FAILURE);
     }
     return reply;
@@ -110,7 +110,7 @@ int main(void) {
     static struct depot depot;
     const uint32_t refusal = zidlemowo_open(depot.words, LENGTH, SITES, HANDLERS);
     if (refusal != 0) {
-        fprintf(stderr, "opening: refused %" PRIu32 "\n", refusal);
+        fprintf(stderr, "opening: %s\n", zidlemowo_refusal_text(refusal));
         return EXIT_FAILURE;
     }
     printf("open: %d cells, %d handlers, %zu words\n", SITES, HANDLERS, LENGTH);

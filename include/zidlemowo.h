@@ -8,6 +8,12 @@
 // Link with target/staticlib/libgateway.a, which `rt staticlib gateway` proves and builds for x86-64 Linux. It needs nothing of the
 // C library but memcpy and memset. examples/gateway.c and examples/run.c are whole programs.
 //
+// docs/RULES.md has the rules, docs/REPLIES.md every number that is given; zidlemowo_text says in words what it means, for a log.
+//
+// A transaction that is given up stays open. None of the four steps ends one for certain without a commit: a later try of that
+// handler may commit what was written before it was given up. So decide from reads, before the first write; a try of a transaction
+// that has written nothing changes no cell.
+//
 // The words. They belong to the caller, who may put them anywhere and copy, move, keep or free them between calls. They are lent
 // for the time of a call: nothing is kept, allocated or freed. A register lies in front of them (docs/LAYOUT.md); words beyond it
 // are never changed. The caller sees to it that `words` points to `length` words, aligned as a uint32_t is, that may be read and
@@ -21,6 +27,12 @@
 
 #include <stddef.h> // size_t: how many words or bytes are lent
 #include <stdint.h> // uint32_t: a word; uint64_t: the reply to a step; uint8_t: a byte of a file or of a text
+
+// The version of this header and its library: of its functions, its numbers and the layout of a register's words.
+#define ZIDLEMOWO_VERSION "0.1.0"
+#define ZIDLEMOWO_VERSION_MAJOR 0 // the parts, for the preprocessor
+#define ZIDLEMOWO_VERSION_MINOR 1
+#define ZIDLEMOWO_VERSION_PATCH 0
 
 #ifdef __cplusplus
 extern "C" { // in C++ the functions keep their C names
@@ -65,16 +77,19 @@ enum {
 };
 
 // Refusals. A step is checked in the order 10, 15, 11, 12, then 13 or 14; an opening in the order 20, 21. The first that holds is
-// given.
+// given. 30, 32 and 33 stand in the texts of whole runs alone.
 enum {
-    ZIDLEMOWO_NOT_WELL_FORMED = 10, // a step: the words are no well-formed register, or too short for one
-    ZIDLEMOWO_NO_HANDLER = 11,      // a step: handler n or above
-    ZIDLEMOWO_NO_CELL = 12,         // a step: read or write of cell m or above
-    ZIDLEMOWO_ALREADY_OPEN = 13,    // a step: begin while open
-    ZIDLEMOWO_NOT_OPEN = 14,        // a step: read, write or try while idle
-    ZIDLEMOWO_UNKNOWN_STEP = 15,    // a step: a code that stands for no step
-    ZIDLEMOWO_OUT_OF_RANGE = 20,    // an opening: m or n out of range
-    ZIDLEMOWO_TOO_SHORT = 21,       // an opening: a buffer shorter than the register
+    ZIDLEMOWO_NOT_WELL_FORMED = 10,  // a step: the words are no well-formed register, or too short for one
+    ZIDLEMOWO_NO_HANDLER = 11,       // a step: handler n or above
+    ZIDLEMOWO_NO_CELL = 12,          // a step: read or write of cell m or above
+    ZIDLEMOWO_ALREADY_OPEN = 13,     // a step: begin while open
+    ZIDLEMOWO_NOT_OPEN = 14,         // a step: read, write or try while idle
+    ZIDLEMOWO_UNKNOWN_STEP = 15,     // a step: a code that stands for no step
+    ZIDLEMOWO_OUT_OF_RANGE = 20,     // an opening: m or n out of range
+    ZIDLEMOWO_TOO_SHORT = 21,        // an opening: a buffer shorter than the register
+    ZIDLEMOWO_BAD_FILE = 30,         // a schedule file: too long, m or n out of range, or a bad table
+    ZIDLEMOWO_USED_UP = 32,          // an order place: the handler's script is used up
+    ZIDLEMOWO_TOO_MANY_COMMITS = 33, // the judge: a try that would be the 65th commit
 };
 
 // The words that a register of m cells and n handlers needs; 0 where m or n is out of range.
@@ -120,6 +135,51 @@ static inline uint32_t zidlemowo_read_code(uint32_t cell) { return zidlemowo_cel
 
 // The code that writes a cell.
 static inline uint32_t zidlemowo_write_code(uint32_t cell) { return zidlemowo_cell_code(ZIDLEMOWO_WRITE, cell); }
+
+// The texts are those of docs/REPLIES.md, "In words", with which they are compared. Each lives as long as the program.
+
+// The text of any number that stands for nothing.
+static inline const char *zidlemowo_no_text(void) { return "a number that stands for nothing"; }
+
+// A reason of an abort in words, for a log.
+static inline const char *zidlemowo_reason_text(uint32_t reason) {
+    switch (reason) {
+    case ZIDLEMOWO_TORN: return "this cell depends on a newer version of a cell that was read before";
+    case ZIDLEMOWO_OVERTAKEN: return "a cell that was read has been written since";
+    case ZIDLEMOWO_SPENT: return "a cell to be written has no version number left";
+    default: return zidlemowo_no_text();
+    }
+}
+
+// A refusal in words, for a log: that of a step, or the number that an opening gives where it is not 0.
+static inline const char *zidlemowo_refusal_text(uint32_t refusal) {
+    switch (refusal) {
+    case ZIDLEMOWO_NOT_WELL_FORMED: return "the words are no well-formed register, or too few for one";
+    case ZIDLEMOWO_NO_HANDLER: return "there is no such handler";
+    case ZIDLEMOWO_NO_CELL: return "there is no such cell";
+    case ZIDLEMOWO_ALREADY_OPEN: return "the handler has an open transaction already";
+    case ZIDLEMOWO_NOT_OPEN: return "the handler has no open transaction";
+    case ZIDLEMOWO_UNKNOWN_STEP: return "no step has this code";
+    case ZIDLEMOWO_OUT_OF_RANGE: return "a register has 1 to 32 cells and 1 to 16 handlers";
+    case ZIDLEMOWO_TOO_SHORT: return "too few words for a register of this size";
+    case ZIDLEMOWO_BAD_FILE: return "these bytes are no schedule file";
+    case ZIDLEMOWO_USED_UP: return "the script of this handler is used up";
+    case ZIDLEMOWO_TOO_MANY_COMMITS: return "the judge notes 64 commits, and this would be the 65th";
+    default: return zidlemowo_no_text();
+    }
+}
+
+// A reply to a step in words, for a log, by its kind and its detail. Of a value it says that one was read; which it is, the detail says.
+static inline const char *zidlemowo_text(uint32_t kind, uint32_t detail) {
+    switch (kind) {
+    case ZIDLEMOWO_OK: return detail == 0 ? "done" : zidlemowo_no_text();
+    case ZIDLEMOWO_VALUE: return "a value was read";
+    case ZIDLEMOWO_COMMIT: return detail == 0 ? "committed" : zidlemowo_no_text();
+    case ZIDLEMOWO_ABORT: return zidlemowo_reason_text(detail);
+    case ZIDLEMOWO_REFUSED: return zidlemowo_refusal_text(detail);
+    default: return zidlemowo_no_text();
+    }
+}
 
 #ifdef __cplusplus
 }

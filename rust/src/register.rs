@@ -1,6 +1,7 @@
 //! A register over its own words or over words that are lent, and its steps.
 use crate::raw;
-use crate::replies::{Abort, Refusal, Reply};
+use crate::reasons::{Abort, Refusal};
+use crate::replies::Reply;
 use crate::step::Step;
 use crate::transact::{self, NotCommitted, Transaction};
 
@@ -25,7 +26,9 @@ enum Words<'a> {
 
 /// A register of 1 to 32 cells and 1 to 16 handlers.
 ///
-/// Its whole state is its words, laid out as `docs/LAYOUT.md` says; nothing is kept beside them.
+/// Its whole state is its words, laid out as `docs/LAYOUT.md` says; nothing is kept beside them. An open transaction is among them:
+/// dropping a closure, a guard or a register that borrows its words ends none, and what it wrote is committed by the next
+/// [`try_commit`](Register::try_commit) of its handler. The [crate's page](crate#a-transaction-that-is-given-up) says what to do.
 #[derive(Debug)]
 pub struct Register<'a> {
     words: Words<'a>,
@@ -179,7 +182,8 @@ impl<'a> Register<'a> {
         self.take(handler, Step::Write(cell, value)).outcome().map(|_| ())
     }
 
-    /// Tries to commit the handler's transaction, which is ended either way.
+    /// Tries to commit the handler's transaction, which is ended either way. It is the transaction that is open, whoever began it: one
+    /// that a closure gave up is committed too, with what it wrote.
     ///
     /// ```
     /// use zidlemowo::{Abort, Refusal, Register};
@@ -206,8 +210,10 @@ impl<'a> Register<'a> {
     ///
     /// **Where the closure gives up** with an error, or panics, no further step is taken. None of the four steps ends a
     /// transaction for certain without a commit; so it stays open, no cell is changed, and the next begin of this handler is
-    /// refused with 13. [`carry_on`](Register::carry_on) takes it up again. If nothing was written in it,
-    /// [`try_commit`](Register::try_commit) ends it without a change to any cell: so decide from reads, before the first write.
+    /// refused with 13. **A later [`try_commit`](Register::try_commit) commits what was written before it was given up**, and so does
+    /// [`carry_on`](Register::carry_on), which takes it up again. If nothing was written in it, `try_commit` ends it without a change
+    /// to any cell: so decide from reads, before the first write. How to be rid of one that has written stands on the
+    /// [crate's page](crate#a-transaction-that-is-given-up).
     ///
     /// ```
     /// use zidlemowo::{NotCommitted, Refusal, Register, Stopped};

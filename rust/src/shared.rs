@@ -87,7 +87,8 @@ impl<'a> Shared<'a> {
     }
 
     /// Runs a closure as one transaction, as [`Register::transact`] does; but other handlers may step while it runs, so that it
-    /// may be aborted for any reason. Each handler is to be used by one closure at a time; a second one is refused with 13.
+    /// may be aborted for any reason. Each handler is to be used by one closure at a time; a second one is refused with 13. Where the
+    /// closure gives up, its transaction stays open, and a later try commits what it wrote.
     ///
     /// ```
     /// # use zidlemowo::{Register, Shared};

@@ -1,5 +1,6 @@
 //! Closures as transactions: begun anew after an abort, up to a bound, over whatever takes the steps.
-use crate::replies::{Abort, Refusal, Reply};
+use crate::reasons::{Abort, Refusal};
+use crate::replies::Reply;
 use crate::step::Step;
 use std::error::Error;
 use std::fmt;
@@ -44,7 +45,8 @@ pub enum NotCommitted<E> {
     Aborted(Abort),
     /// The begin or the try was refused: the handler's phase was not the one asked for, or there is no such handler or register.
     Refused(Refusal),
-    /// The closure gave up with this error. The transaction is open still, and no cell is changed.
+    /// The closure gave up with this error. The transaction is open still, and no cell is changed; a later try would commit what it
+    /// wrote. The [crate's page](crate#a-transaction-that-is-given-up) says what to do.
     GaveUp(E),
 }
 

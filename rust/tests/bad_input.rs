@@ -1,5 +1,5 @@
-//! Bad input: words that are no register, and handlers, cells and codes that there are not. Each is answered with the documents'
-//! number, and no word is changed.
+//! Bad input: words that are no register, and handlers, cells and codes that there are not. Each is answered with the number that
+//! docs/REPLIES.md has for it, and no word is changed.
 use zidlemowo::{needed, NotCommitted, Refusal, Register, Reply, Step, Stopped};
 
 const SIZES: [(u32, u32); 6] = [(1, 1), (2, 1), (2, 3), (31, 2), (32, 1), (32, 16)];

@@ -1,4 +1,4 @@
-//! Document 01's cases, K1 to K13, through the library.
+//! The cases of docs/RULES.md, K1 to K13, through the library.
 use zidlemowo::{needed, Abort, Refusal, Register, Reply, Step};
 
 fn register(handlers: u32) -> Register<'static> {

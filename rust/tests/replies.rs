@@ -1,4 +1,4 @@
-//! The numbers and words of the replies are those of docs/REPLIES.md, read from its tables, and lead there and back.
+//! The numbers and texts of the replies are those of docs/REPLIES.md, read from its tables, and lead there and back.
 use std::fs;
 use zidlemowo::{Abort, Refusal, Reply};
 
@@ -18,12 +18,6 @@ fn capital(name: &str) -> String {
     name[..1].to_uppercase() + &name[1..]
 }
 
-/// Whether what is displayed is the number and the beginning of the document's words.
-fn says(displayed: &str, kind: &str, number: u32, document: &str) -> bool {
-    let inner = displayed.strip_prefix(&format!("{kind} {number} (")).and_then(|rest| rest.strip_suffix(')'));
-    inner.is_some_and(|words| !words.is_empty() && document.starts_with(words))
-}
-
 #[test]
 fn aborts_are_the_documents() {
     let rows = rows("Reasons of an abort");
@@ -31,7 +25,7 @@ fn aborts_are_the_documents() {
     for (number, entries) in rows {
         let abort = Abort::from_number(number).expect("an abort");
         assert_eq!(format!("{abort:?}"), capital(&entries[0]));
-        assert!(says(&abort.to_string(), "abort", number, &entries[1]), "{abort}");
+        assert_eq!(abort.to_string(), format!("abort {number} ({})", abort.text()));
     }
 }
 
@@ -42,7 +36,7 @@ fn refusals_are_the_documents() {
     for (number, entries) in rows {
         let refusal = Refusal::from_number(number).expect("a refusal");
         assert_eq!(format!("{refusal:?}"), capital(&entries[0]));
-        assert!(says(&refusal.to_string(), "refused", number, &entries[1]), "{refusal}");
+        assert_eq!(refusal.to_string(), format!("refused {number} ({})", refusal.text()));
     }
 }
 
@@ -53,6 +47,23 @@ fn kinds_are_the_documents() {
     let documented: Vec<(u32, String)> = words.map(|(kind, words)| (kind, first(words))).collect();
     let replies = [Reply::Done, Reply::Value(7), Reply::Committed, Reply::Aborted(Abort::Torn), Reply::Refused(Refusal::NoCell)];
     assert_eq!(documented, replies.map(|reply| (reply.kind(), first(reply.to_string()))));
+}
+
+/// A row of the table of texts: its kind, its detail and its text.
+fn worded(reply: Reply) -> (u32, Vec<String>) {
+    let detail = if let Reply::Value(_) = reply { "any".to_owned() } else { reply.detail().to_string() };
+    (reply.kind(), vec![detail, reply.text().to_owned()])
+}
+
+#[test]
+fn texts_are_the_documents() {
+    let others = [Reply::Done, Reply::Value(7), Reply::Committed];
+    let replies = others.into_iter().chain(Abort::ALL.map(Reply::Aborted)).chain(Refusal::ALL.map(Reply::Refused));
+    let (said, documented) = (replies.map(worded).collect::<Vec<_>>(), rows("In words"));
+    assert_eq!(said.len(), documented.len());
+    for (text, row) in said.into_iter().zip(documented) {
+        assert_eq!(text, row, "left is the library's text, right is docs/REPLIES.md's");
+    }
 }
 
 #[test]

@@ -118,6 +118,29 @@ fn given_up_before_the_first_write_a_try_changes_no_cell() {
     }
 }
 
+/// Handler 0 gives up after a write of cell 0.
+fn given_up_after_a_write(shared: &Shared<'_>) {
+    let result = shared.transact(0, 3, |transaction| transaction.write(0, 5).map_or(Ok(()), Err));
+    assert_eq!(result, Err(NotCommitted::GaveUp(())));
+}
+
+#[test]
+fn given_up_after_a_write_a_later_try_commits_it() {
+    let shared = shared(2);
+    given_up_after_a_write(&shared);
+    assert_eq!((values(&shared), shared.take(0, Step::Try), values(&shared)), ([0, 0], Reply::Committed, [5, 0]));
+}
+
+#[test]
+fn given_up_after_a_write_it_is_aborted_by_a_cell_that_is_committed_anew() {
+    let shared = shared(2);
+    given_up_after_a_write(&shared);
+    assert_eq!(shared.take(0, Step::Read(1)), Reply::Value(0));
+    assert_eq!(shared.transact(1, 1, |transaction| transaction.read(1).and_then(|same| transaction.write(1, same))), Ok(()));
+    assert_eq!(shared.take(0, Step::Try), Reply::Aborted(Abort::Overtaken));
+    assert_eq!((values(&shared), shared.take(0, Step::Begin)), ([0, 0], Reply::Done));
+}
+
 #[test]
 fn carried_on_after_an_abort_it_begins_anew() {
     let shared = shared(2);

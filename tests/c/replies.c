@@ -1,4 +1,4 @@
-// The header's names against document 01's numbers: every step code, every kind of reply and every reason of an abort, each given by
+// The header's names against the numbers of docs/RULES.md: every step code, every kind of reply and every reason of an abort, each given by
 // the proved register itself. The refusals' names are tried in bad_input.c.
 #include "zidlemowo.h"
 

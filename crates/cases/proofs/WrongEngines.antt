@@ -1,4 +1,4 @@
--- Document 01, "How tight the promises are": engines that no edit of one operand makes, each shut out by the promise of a step.
+-- docs/RULES.md, "How tight the promises are": engines that no edit of one operand makes, each shut out by the promise of a step.
 use Prim.Native.Nat.{ℕ}
 use mathlib.Core.Path.{_≡_, refl, sym, ap, _∙_}
 use mathlib.Core.List.{List, [], _∷_}

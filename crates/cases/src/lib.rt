@@ -1,1 +1,1 @@
-// Document 01's cases K1 to K12, claimed of the promises: one list, one claim, no code.
+// The cases K1 to K12 of docs/RULES.md, claimed of the promises: one list, one claim, no code.

@@ -1,5 +1,5 @@
 -- Lengths and places of a register and of the judge's ledger. No other definition knows an offset, and in code no crate but `places`.
--- The register is as document 01's "Words of a register": word 0 is m and word 1 is n; then the cells, then the handlers.
+-- The register is as docs/RULES.md has it, "Words and lengths": word 0 is m and word 1 is n; then the cells, then the handlers.
 -- Cells and handlers together are a register's body, and places are counted from its first word: registers that carry more words
 -- behind m and n have the same body behind those.
 use Prim.Native.Nat.{ℕ, _+_, _*_}

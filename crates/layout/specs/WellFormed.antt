@@ -1,4 +1,4 @@
--- Which words are a register, as a proposition in document 01's words and as a test; proofs/Tested.antt shows that the test
+-- Which words are a register, as a proposition in docs/RULES.md's words and as a test; proofs/Tested.antt shows that the test
 -- answers exactly the proposition. Nothing else is required: a well-formed register need not be reachable.
 use Prim.Native.Nat.{ℕ, _^_, _≤_, _<_}
 use mathlib.Core.Path.{_≡_}

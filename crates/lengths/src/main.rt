@@ -1,4 +1,4 @@
-// Opens registers of several sizes and prints what is replied: K1 and K13 of document 01.
+// Opens registers of several sizes and prints what is replied: K1 and K13 of docs/RULES.md.
 use libc::STDOUT_FILENO;
 use limits::MOST_CELLS;
 use limits::MOST_HANDLERS;

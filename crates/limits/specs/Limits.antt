@@ -1,4 +1,4 @@
--- The numbers of the documents and of our layouts that contracts cite; in code each is a constant of the same name.
+-- The numbers of the rules (docs/RULES.md) and of our layouts that contracts cite; in code each is a constant of the same name.
 use Prim.Native.Nat.{ℕ}
 
 -- The most cells that a register has.

@@ -1,4 +1,4 @@
-// The numbers of the documents and of our layouts, each said once, and the range of a register's cells and handlers.
+// The numbers of the rules (docs/RULES.md) and of our layouts, each said once, and the range of a register's cells and handlers.
 // PUBLIC: nothing here has a `requires`.
 ghost use Rattle.limits.specs.Ranges.{RangePromise};
 

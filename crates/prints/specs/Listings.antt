@@ -1,4 +1,4 @@
--- Files in bytes, and what is printed of them, line by line: document 01's listing, a file refused with 30, one refused with 15, and
+-- Files in bytes, and what is printed of them, line by line: the published listing, a file refused with 30, one refused with 15, and
 -- order places refused with 11 and with 32. proofs/Listings.antt computes that the runner and the judge print just this.
 use Prim.Native.Nat.{ℕ}
 use Prim.Native.String.{String}
@@ -16,7 +16,7 @@ unfoldable pub written : List String → List ℕ
 written [] = []
 written (line ∷ lines) = ascii line ++ newline ++ written lines
 
--- Document 01's listing: handler 0 is aborted with 1.
+-- The published listing, docs/RULES.md, K7: handler 0 is aborted with 1.
 unfoldable pub published : Listing
 published = record {
   file =

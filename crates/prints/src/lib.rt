@@ -3,7 +3,7 @@
 // PUBLIC: `run` and `judge` have no `requires`; each promise fixes the reply and every byte of the buffer, for all files and buffers.
 ghost use Prim.Native.Nat.{_+_, _*_, _≤_};
 ghost use Rattle.limits.specs.Limits.{mostCells, mostFileBytes, longestLine, mostPrinted};
-ghost use Rattle.text.specs.Lies.{Puts, farthest};
+ghost use Rattle.text.specs.Lies.{Puts};
 ghost use Rattle.schedule.specs.Taking.{atStart};
 ghost use Rattle.runs.specs.Players.{playerIs};
 ghost use Rattle.runs.specs.ByPlaces.{placesFrom};

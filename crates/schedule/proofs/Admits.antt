@@ -1,4 +1,4 @@
--- The admission of a file gives 30 and 15 exactly when document 01 says, and is sound exactly for a file that is run.
+-- The admission of a file gives 30 and 15 exactly when docs/RULES.md says, and is sound exactly for a file that is run.
 use Prim.Native.Nat.{ℕ, _<_}
 use mathlib.Core.Path.{_≡_, refl, sym, _∙_}
 use mathlib.Core.Bool.{Bool, true, false, not}

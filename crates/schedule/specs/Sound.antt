@@ -1,4 +1,4 @@
--- Which bytes are a schedule file, as a proposition in document 01's words and as a test; proofs/Sounds.antt shows that the test
+-- Which bytes are a schedule file, as a proposition in docs/SCHEDULE.md's words and as a test; proofs/Sounds.antt shows that the test
 -- answers exactly the proposition.
 use Prim.Native.Nat.{ℕ, zero, suc, _+_, _≤_, _<_}
 use mathlib.Core.Path.{_≡_}

@@ -1,4 +1,4 @@
-//! Random schedule files from a seed: sound ones of several shapes, and ones damaged in every way that document 01 refuses; and
+//! Random schedule files from a seed: sound ones of several shapes, and ones damaged in every way that docs/SCHEDULE.md refuses; and
 //! files at the borders, which are no chance. The proved programs are compared with this crate's on all of them.
 mod borders;
 mod damage;

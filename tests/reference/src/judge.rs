@@ -1,4 +1,4 @@
-//! The judge of document 01: what each step comes to, worked out from the history alone, up to a 65th commit. There are no
+//! The judge of docs/RULES.md: what each step comes to, worked out from the history alone, up to a 65th commit. There are no
 //! dependency numbers here: a causal past is asked of the versions that were read and of the handlers' earlier commits.
 use crate::lines::{self, Cell, Run};
 use crate::register::Reply;

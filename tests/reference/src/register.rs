@@ -1,4 +1,4 @@
-//! Opening a register, and its steps, over words as document 01 lays them out: m cells and n handlers, and X, Y and Z for cells, as
+//! Opening a register, and its steps, over words as docs/RULES.md lays them out: m cells and n handlers, and X, Y and Z for cells, as
 //! they are called there.
 
 /// What a step comes to: an abort with its reason, a refusal with its number.

@@ -1,4 +1,4 @@
-//! The runner of document 01: a schedule file, judged and then taken step by step on a fresh register.
+//! The runner of docs/SCHEDULE.md: a schedule file, judged and then taken step by step on a fresh register.
 //! What it prints is what the proved runner has to print.
 use crate::lines::{self, Cell, Run};
 use crate::register;

@@ -1,4 +1,4 @@
-//! The schedule file of document 01: its judgement, which comes before its first step, and what each order place asks for.
+//! The schedule file of docs/SCHEDULE.md: its judgement, which comes before its first step, and what each order place asks for.
 //! What a step comes to is not known here: the runner asks the register, and the judge its history.
 use crate::lines::Line;
 use crate::register::Reply;

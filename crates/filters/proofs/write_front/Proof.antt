@@ -12,4 +12,7 @@ write-front-spec =
     -- as many bytes as the part has
     (λ c. simp length-take (omega (arith, c .before .before .pre)))
     (λ c κs. search needs)
+    (λ c. search needs)
+    (λ c κs. search needs)
+    (λ c. search needs)
     (λ c. search needs))

@@ -1,4 +1,4 @@
--- Cases K8 to K11 of document 01, and what is in a causal past and what is not: histories and answers, all computed.
+-- Cases K8 to K11 of docs/RULES.md, and what is in a causal past and what is not: histories and answers, all computed.
 use Prim.Native.Nat.{ℕ}
 use mathlib.Core.Path.{_≡_, refl}
 use mathlib.Core.Bool.{true, false}

@@ -1,4 +1,4 @@
--- Nothing is lost in document 01's numbers: each numbering is injective. A numbering that can be read back is, so for reasons
+-- Nothing is lost in the numbers of docs/RULES.md: each numbering is injective. A numbering that can be read back is, so for reasons
 -- and refusals the reading back is written down.
 use Prim.Native.Nat.{ℕ}
 use native.Mathlib.Omega.{arith}

@@ -1,5 +1,5 @@
--- Document 01's cases K1 to K12 as data, and some besides: one list of rows. A row has its opening, its steps with the replies that
--- are expected, and the words that are expected at the end. The crate `cases` claims them of the promises, proofs/AllCases.antt of
+-- The cases K1 to K12 of docs/RULES.md as data, and some besides: one list of rows. A row has its opening, its steps with the
+-- replies that are expected, and the words that are expected at the end. The crate `cases` claims them of the promises, proofs/AllCases.antt of
 -- the rules.
 use Prim.Native.Nat.{ℕ}
 use mathlib.Core.List.{List, [], _∷_, _++_}
@@ -75,7 +75,7 @@ untouched k = replicate k 7
 
 -- ── The rows ──────────────────────────────────────────────────────────
 
--- The cases, in their order. Behind K12 stand K5, K6 and K12 with a read more than document 01 has, so that what is written is seen.
+-- The cases, in their order. Behind K12 stand K5, K6 and K12 with a read more than docs/RULES.md has, so that what is written is seen.
 -- Before K1 and at the end stand inputs that no register was opened for: each gets its number.
 unfoldable pub cases : List Case
 cases =

@@ -1,4 +1,4 @@
--- The four steps, after Figure 1 of PI 1923 and document 01: begin, read, write, and try as one step.
+-- The four steps, after Figure 1 of PI 1923 and docs/RULES.md: begin, read, write, and try as one step.
 use Prim.Native.Nat.{ℕ, _+_, max}
 use mathlib.Core.Bool.{Bool, true, not, _&&_, _||_}
 use mathlib.Core.List.{List, [], _∷_}

@@ -1,4 +1,4 @@
--- Replies: outcomes with their reasons, refusals, and document 01's numbers for them. Nothing of a reply is lost in its
+-- Replies: outcomes with their reasons, refusals, and docs/RULES.md's numbers for them. Nothing of a reply is lost in its
 -- numbers (proofs/Numbers.antt).
 use Prim.Native.Nat.{ℕ}
 

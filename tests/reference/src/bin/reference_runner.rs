@@ -1,4 +1,4 @@
-//! The runner of document 01 in plain Rust: a schedule file on standard input, its lines on standard output.
+//! The runner of docs/SCHEDULE.md in plain Rust: a schedule file on standard input, its lines on standard output.
 //! It is measured beside the proved runner.
 use reference::{program, runner};
 

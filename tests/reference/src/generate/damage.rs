@@ -1,4 +1,4 @@
-//! Files damaged in every way that document 01 refuses, and by chance. Each way is listed once, in `ALL`, with the number that its
+//! Files damaged in every way that docs/SCHEDULE.md refuses, and by chance. Each way is listed once, in `ALL`, with the number that its
 //! files are refused with; what does it stands in the modules, by the part of the file that is spoilt.
 mod chance;
 mod codes;

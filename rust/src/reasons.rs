@@ -1,0 +1,183 @@
+//! Why a transaction was aborted and why something was refused: numbers and texts, as `docs/REPLIES.md` has them.
+use std::error::Error;
+use std::fmt;
+
+/// Why a transaction was aborted. It is ended and nothing of it is kept.
+///
+/// ```
+/// use zidlemowo::Abort;
+///
+/// assert_eq!(Abort::Overtaken.to_string(), "abort 2 (a cell that was read has been written since)");
+/// ```
+#[derive(Clone, Copy, Debug, PartialEq, Eq, Hash)]
+pub enum Abort {
+    /// A first read: the cell depends on a later version of a cell already read.
+    Torn = 1,
+    /// A try: a cell that was read has another number now.
+    Overtaken = 2,
+    /// A try, no cell overtaken: a written cell's number stands at 65,535. Every further attempt to write that cell ends so too.
+    Spent = 3,
+}
+
+impl Abort {
+    /// Every reason of an abort.
+    ///
+    /// ```
+    /// assert_eq!(zidlemowo::Abort::ALL.len(), 3);
+    /// ```
+    pub const ALL: [Abort; 3] = [Abort::Torn, Abort::Overtaken, Abort::Spent];
+
+    /// The reason's number.
+    ///
+    /// ```
+    /// assert_eq!(zidlemowo::Abort::Torn.number(), 1);
+    /// ```
+    pub fn number(self) -> u32 {
+        self as u32
+    }
+
+    /// The reason with that number.
+    ///
+    /// ```
+    /// use zidlemowo::Abort;
+    ///
+    /// assert_eq!(Abort::from_number(3), Some(Abort::Spent));
+    /// assert_eq!(Abort::from_number(4), None);
+    /// ```
+    pub fn from_number(number: u32) -> Option<Abort> {
+        Abort::ALL.into_iter().find(|abort| abort.number() == number)
+    }
+
+    /// The reason in words, without its number.
+    ///
+    /// ```
+    /// assert_eq!(zidlemowo::Abort::Overtaken.text(), "a cell that was read has been written since");
+    /// ```
+    pub fn text(self) -> &'static str {
+        match self {
+            Abort::Torn => "this cell depends on a newer version of a cell that was read before",
+            Abort::Overtaken => "a cell that was read has been written since",
+            Abort::Spent => "a cell to be written has no version number left",
+        }
+    }
+}
+
+impl fmt::Display for Abort {
+    fn fmt(&self, to: &mut fmt::Formatter<'_>) -> fmt::Result {
+        write!(to, "abort {} ({})", self.number(), self.text())
+    }
+}
+
+impl Error for Abort {}
+
+/// Why something was refused. Nothing is changed by it. 30, 32 and 33 are of schedule files and the judge; no register gives them.
+///
+/// ```
+/// use zidlemowo::Refusal;
+///
+/// assert_eq!(Refusal::AlreadyOpen.to_string(), "refused 13 (the handler has an open transaction already)");
+/// ```
+#[derive(Clone, Copy, Debug, PartialEq, Eq, Hash)]
+pub enum Refusal {
+    /// The words are no well-formed register, or too short for one.
+    NotWellFormed = 10,
+    /// Handler n or above.
+    NoHandler = 11,
+    /// Read or write of cell m or above.
+    NoCell = 12,
+    /// Begin while open.
+    AlreadyOpen = 13,
+    /// Read, write or try while idle.
+    NotOpen = 14,
+    /// A code that stands for no step.
+    UnknownStep = 15,
+    /// Opening with m or n out of range.
+    OutOfRange = 20,
+    /// Opening with a buffer shorter than the register.
+    TooShort = 21,
+    /// A schedule file that is too long, has m or n out of range, or a bad table.
+    BadFile = 30,
+    /// At an order place: the handler's script is used up.
+    UsedUp = 32,
+    /// The judge: a try that would be the 65th commit.
+    TooManyCommits = 33,
+}
+
+impl Refusal {
+    /// Every refusal.
+    ///
+    /// ```
+    /// assert_eq!(zidlemowo::Refusal::ALL.len(), 11);
+    /// ```
+    pub const ALL: [Refusal; 11] = [
+        Refusal::NotWellFormed,
+        Refusal::NoHandler,
+        Refusal::NoCell,
+        Refusal::AlreadyOpen,
+        Refusal::NotOpen,
+        Refusal::UnknownStep,
+        Refusal::OutOfRange,
+        Refusal::TooShort,
+        Refusal::BadFile,
+        Refusal::UsedUp,
+        Refusal::TooManyCommits,
+    ];
+
+    /// The refusal's number.
+    ///
+    /// ```
+    /// assert_eq!(zidlemowo::Refusal::TooShort.number(), 21);
+    /// ```
+    pub fn number(self) -> u32 {
+        self as u32
+    }
+
+    /// The refusal with that number.
+    ///
+    /// ```
+    /// use zidlemowo::Refusal;
+    ///
+    /// assert_eq!(Refusal::from_number(10), Some(Refusal::NotWellFormed));
+    /// assert_eq!(Refusal::from_number(31), None);
+    /// ```
+    pub fn from_number(number: u32) -> Option<Refusal> {
+        Refusal::ALL.into_iter().find(|refusal| refusal.number() == number)
+    }
+
+    /// What the number that an opening gives comes to.
+    pub(crate) fn of_opening(number: u32) -> Result<(), Refusal> {
+        match number {
+            0 => Ok(()),
+            _ => Err(Refusal::from_number(number).expect("an opening is refused with a number of docs/REPLIES.md")),
+        }
+    }
+
+    /// The refusal in words, without its number.
+    ///
+    /// ```
+    /// assert_eq!(zidlemowo::Refusal::NoCell.text(), "there is no such cell");
+    /// ```
+    pub fn text(self) -> &'static str {
+        match self {
+            Refusal::NotWellFormed => "the words are no well-formed register, or too few for one",
+            Refusal::NoHandler => "there is no such handler",
+            Refusal::NoCell => "there is no such cell",
+            Refusal::AlreadyOpen => "the handler has an open transaction already",
+            Refusal::NotOpen => "the handler has no open transaction",
+            Refusal::UnknownStep => "no step has this code",
+            Refusal::OutOfRange => "a register has 1 to 32 cells and 1 to 16 handlers",
+            Refusal::TooShort => "too few words for a register of this size",
+            Refusal::BadFile => "these bytes are no schedule file",
+            Refusal::UsedUp => "the script of this handler is used up",
+            Refusal::TooManyCommits => "the judge notes 64 commits, and this would be the 65th",
+        }
+    }
+}
+
+impl fmt::Display for Refusal {
+    fn fmt(&self, to: &mut fmt::Formatter<'_>) -> fmt::Result {
+        write!(to, "refused {} ({})", self.number(), self.text())
+    }
+}
+
+impl Error for Refusal {}
