@@ -8,7 +8,7 @@ use lib.Dec.{eqb}
 use borrow.Author.Tests.{ne-eqb}
 use Rattle.rules.specs.steps.Tables.{if_then_else_}
 use Rattle.counts.specs.Counting.{Count, column, isIn}
-use Rattle.counts.specs.Rows.{oneAt, RaisedAt}
+use Rattle.counts.specs.Rows.{RaisedAt, AddedAt}
 
 -- A count that is raised stands in its column.
 pub at-count : (count : Count) → RaisedAt (some count) (column count)
@@ -34,6 +34,6 @@ one-or-none : (same : Bool) → (if same then 1 else 0) ≤ 1
 one-or-none true = omega arith
 one-or-none false = omega arith
 
--- A column adds 1 at most.
-pub one-at-most : (at k : ℕ) → oneAt at k ≤ 1
-one-at-most at k = one-or-none (eqb at k)
+-- What a column adds is 1 at most.
+pub one-at-most : {at k one : ℕ} → AddedAt at k one → one ≤ 1
+one-at-most {at} {k} added = omega (arith, added .is, one-or-none (eqb at k))

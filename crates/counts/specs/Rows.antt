@@ -22,9 +22,13 @@ inColumn counts k = getD (rowOf counts) k 0
 pub record RaisedAt (raised : Option Count) (at : ℕ) : Type 0 where
   pub shown : (k : ℕ) → k < 5 → eqb at k ≡ isIn k raised
 
--- What a column adds to the count in another: 1 where they are the same.
+-- What a column adds to the count in column k: 1 where they are the same.
 abbrev pub oneAt : ℕ → ℕ → ℕ
 oneAt at k = if eqb at k then 1 else 0
+
+-- The number is what a column adds to the count in column k.
+pub record AddedAt (at k one : ℕ) : Type 0 where
+  pub is : one ≡ oneAt at k
 
 -- The count in a column is one higher than before, and the others are as they were.
 pub record RaisedIn (at : ℕ) (before after : Counts) : Type 0 where

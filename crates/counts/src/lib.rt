@@ -1,10 +1,10 @@
-// One handler's counts of a duty sheet, lent and brought up to date where they stand. Internal: called by `sheets` alone.
-ghost use mathlib.Core.Path.{_≡_};
+// One handler's counts of a duty sheet: which count an answer to a step raises, and counts brought up to date with it, by value and where
+// they stand. Internal: called by `sheets` alone.
 ghost use Rattle.rules.specs.steps.Replies as Rules;
 ghost use Rattle.replies.specs.Meaning.{outcomeIs, replyIs};
 ghost use Rattle.checks.specs.Meaning.{kindIs};
 ghost use Rattle.counts.specs.Counting.{raised, raisedBy};
-ghost use Rattle.counts.specs.Rows.{oneAt, RaisedAt, RaisedIn, BroughtUp, Room};
+ghost use Rattle.counts.specs.Rows.{RaisedAt, AddedAt, RaisedIn, BroughtUp, Room};
 use checks::Kind;
 use checks::kind_of;
 use replies::Answer;
@@ -67,7 +67,7 @@ fn raised_column(code: u32, answer: Answer) -> usize
 
 // What a column adds to the count in column k.
 fn one_at(column: usize, k: usize) -> u32
-    ensures { λ r. ⌜ r ≡ oneAt column k ⌝ }
+    ensures { λ r. ⌜ AddedAt column k r ⌝ }
 {
     if column == k {
         return 1;
@@ -97,7 +97,8 @@ pub fn brought_up(counts: Counts, code: u32, answer: Answer) -> Counts
     with_raised(counts, raised_column(code, answer))
 }
 
-// Brings one handler's counts up to date where they stand.
+// Brings one handler's counts up to date where they stand. It stores what the by-value update returns, so that all there is to prove of
+// counts is proved of values.
 pub fn bring_up(counts: &mut Counts, code: u32, answer: Answer)
     requires { ⌜ Room (now counts) ⌝ }
     ensures { λ _. ⌜ BroughtUp (raised code (replyIs answer)) (now (counts .entry)) (now (counts .exit)) ⌝ }
@@ -105,7 +106,7 @@ pub fn bring_up(counts: &mut Counts, code: u32, answer: Answer)
     *counts = brought_up(*counts, code, answer);
 }
 
-// The counts brought up to date, lent for it.
+// The counts brought up to date, lent for it. Its callers hold no reference, so the check follows their code by itself.
 pub fn kept_up(counts: Counts, code: u32, answer: Answer) -> Counts
     requires { ⌜ Room counts ⌝ }
     ensures { λ r. ⌜ BroughtUp (raised code (replyIs answer)) counts r ⌝ }

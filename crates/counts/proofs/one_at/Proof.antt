@@ -8,5 +8,5 @@ pub one-at-spec : {M : Type 1} → statement M
 one-at-spec =
     tie.close
     (tie.spec
-    (λ c. rw (eq-eqb (c .before .args .column) (c .before .args .k) (omega arith)))
-    (λ c. rw (ne-eqb (c .before .args .column) (c .before .args .k) (omega arith))))
+    (λ c. record { is = rw (eq-eqb (c .before .args .column) (c .before .args .k) (omega arith)) })
+    (λ c. record { is = rw (ne-eqb (c .before .args .column) (c .before .args .k) (omega arith)) }))

@@ -10,13 +10,13 @@ with-raised-spec =
     tie.close
     (tie.spec
     (λ c κs. search needs)
-    (λ c. omega (arith, one-at-most (c .before .before .args .column) 0))
+    (λ c. omega (arith, one-at-most (c .before .one-at .ensures)))
     (λ c κs. search needs)
-    (λ c. omega (arith, one-at-most (c .before .before .before .before .args .column) 1))
+    (λ c. omega (arith, one-at-most (c .before .one-at2 .ensures)))
     (λ c κs. search needs)
-    (λ c. omega (arith, one-at-most (c .before .before .before .before .before .before .args .column) 2))
+    (λ c. omega (arith, one-at-most (c .before .one-at3 .ensures)))
     (λ c κs. search needs)
-    (λ c. omega (arith, one-at-most (c .before .before .before .before .before .before .before .before .args .column) 3))
+    (λ c. omega (arith, one-at-most (c .before .one-at4 .ensures)))
     (λ c κs. search needs)
-    (λ c. omega (arith, one-at-most (c .before .before .before .before .before .before .before .before .before .before .args .column) 4))
+    (λ c. omega (arith, one-at-most (c .before .one-at5 .ensures)))
     (λ c. record { raises = each-column _ (cc) (cc) (cc) (cc) (cc) }))
