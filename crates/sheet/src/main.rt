@@ -6,20 +6,12 @@ ghost use lib.ListN.{length};
 ghost use Rattle.summary.specs.Texts.{longestName};
 use sheets::Added;
 
-// The number that a file was refused with, or 0.
-fn refused_with(added: Added) -> u32 {
-    match added {
-        Added::Counted => 0,
-        Added::Refused(refusal) => replies::refusal_number(refusal),
-    }
-}
-
 // Prints the line of a file, by one write.
 fn print_added(name: &[u8], added: Added)
     requires { ⌜ length (now name) ≤ longestName ⌝ }
 {
     let mut printed = [0u8; summary::MOST_ADDED];
-    let long = summary::put_added(&mut printed, name, refused_with(added));
+    let long = summary::put_added(&mut printed, name, added);
     filters::write_front(&printed, long);
 }
 
@@ -33,7 +25,8 @@ fn add_open(sheet: &mut [u32], descriptor: i32, name: &[u8])
         return;
     }
     let count = reading.count;
-    print_added(name, sheets::add_file(sheet, &file[..count]));
+    let added = sheets::add_file(sheet, &file[..count]);
+    print_added(name, added);
 }
 
 // Adds the file of a name.
@@ -67,6 +60,7 @@ fn add_arguments(sheet: &mut [u32]) {
     }
 }
 
+// Adds, and prints the sheet.
 fn main() {
     let mut sheet = [0u32; limits::SHEET_WORDS];
     add_arguments(&mut sheet);

@@ -1,10 +1,10 @@
 -- The small sheet is computed: its text is what is written out, byte for byte; and so are the lines of two files.
-use Prim.Native.Nat.{ℕ}
 use mathlib.Core.Path.{_≡_, refl}
-use mathlib.Core.List.{List}
+use mathlib.Core.Option.{none, some}
+use Rattle.rules.specs.steps.Replies.{badFile}
 use Rattle.layout.specs.Rows.{rows}
 use Rattle.text.specs.Bytes.{ascii, spelled}
-use Rattle.summary.specs.Texts.{rowText, sheetText, verdictText, addedText}
+use Rattle.summary.specs.Texts.{rowText, sheetText, addedText}
 use Rattle.summary.specs.Listing.{line, smallSheet, smallText}
 
 -- The text of the small sheet,
@@ -13,10 +13,9 @@ unfolding rows rowText spelled smallText
 small-printed = refl
 
 -- the line of a file that is counted, and of one that is refused.
-pub counted-printed : addedText (ascii "week.bin") 0 ≡ line "week.bin ok"
-unfolding verdictText
+pub counted-printed : addedText (ascii "week.bin") none ≡ line "week.bin ok"
 counted-printed = refl
 
-pub refused-printed : addedText (ascii "week.bin") 30 ≡ line "week.bin refused 30"
-unfolding verdictText spelled
+pub refused-printed : addedText (ascii "week.bin") (some badFile) ≡ line "week.bin refused 30"
+unfolding spelled
 refused-printed = refl

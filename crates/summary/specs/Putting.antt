@@ -1,8 +1,10 @@
 -- What it means to put the text of a sheet, or the line of a file, into a lent buffer.
 use Prim.Native.Nat.{ℕ}
 use mathlib.Core.List.{List}
+use mathlib.Core.Option.{Option}
 use lib.ListN.{length}
 use Rattle.rules.specs.Promise.{Due, Promise}
+use Rattle.rules.specs.steps.Replies.{Refusal}
 use Rattle.text.specs.Lies.{over}
 use Rattle.summary.specs.Texts.{sheetText, addedText}
 
@@ -16,10 +18,10 @@ pub record SheetCall : Type 0 where
   pub words : List ℕ
   pub buffer : List ℕ
 
--- What putting the line of a file is given: its name, the number it was refused with or 0, and the lent buffer.
+-- What putting the line of a file is given: its name, the refusal if there is one, and the lent buffer.
 pub record AddedCall : Type 0 where
   pub name : List ℕ
-  pub refused : ℕ
+  pub refused : Option Refusal
   pub buffer : List ℕ
 
 -- What putting a sheet comes to.
@@ -35,6 +37,6 @@ abbrev pub SheetTextPromise : List ℕ → List ℕ → ℕ → List ℕ → Typ
 SheetTextPromise words buffer reply after = Promise puttingSheet (record { words = words; buffer = buffer }) reply after
 
 -- THE PROMISE OF A FILE'S LINE.
-abbrev pub AddedTextPromise : List ℕ → ℕ → List ℕ → ℕ → List ℕ → Type 0
+abbrev pub AddedTextPromise : List ℕ → Option Refusal → List ℕ → ℕ → List ℕ → Type 0
 AddedTextPromise name refused buffer reply after =
     Promise puttingAdded (record { name = name; refused = refused; buffer = buffer }) reply after

@@ -2,8 +2,8 @@
 use Prim.Native.Nat.{ℕ}
 use Prim.Native.String.{String}
 use mathlib.Core.List.{List, _++_}
-use lib.Dec.{eqb}
-use Rattle.rules.specs.steps.Tables.{if_then_else_}
+use mathlib.Core.Option.{Option, none, some}
+use Rattle.rules.specs.steps.Replies.{Refusal, refusalNumber}
 use Rattle.limits.specs.Limits.{mostHandlers}
 use Rattle.layout.specs.Rows.{rows}
 use Rattle.text.specs.Bytes.{ascii, decimal}
@@ -42,18 +42,19 @@ mostSummary = 1776
 
 -- ── A file that is added ──────────────────────────────────────────────
 
--- What is said of a file: it was counted, where the number is 0, or refused with that number.
-unfoldable pub verdictText : ℕ → List ℕ
-verdictText number = if eqb number 0 then (ascii " ok") else (named " refused " number)
+-- What came of a file: it was counted, or it was refused with a number.
+abbrev pub verdictText : Option Refusal → List ℕ
+verdictText none = ascii " ok"
+verdictText (some refusal) = named " refused " (refusalNumber refusal)
 
 -- The line of a file.
-abbrev pub addedText : List ℕ → ℕ → List ℕ
-addedText name number = name ++ verdictText number ++ newline
+abbrev pub addedText : List ℕ → Option Refusal → List ℕ
+addedText name refused = name ++ verdictText refused ++ newline
 
 -- The longest name of a file, in bytes.
 abbrev pub longestName : ℕ
 longestName = 4096
 
--- The longest that is said of a file, in bytes.
+-- The longest that is said of a file behind its name, in bytes.
 abbrev pub longestVerdict : ℕ
 longestVerdict = 19

@@ -10,8 +10,10 @@ ghost use Rattle.limits.specs.Limits.{mostHandlers};
 ghost use Rattle.text.specs.Bytes.{decimal};
 ghost use Rattle.text.specs.Lies.{Puts};
 ghost use Rattle.sheets.specs.Sheets.{columns, counted};
+ghost use Rattle.sheets.specs.Meaning.{addedIs};
 ghost use Rattle.summary.specs.Texts.{rowText, longestRow, mostSummary, verdictText, longestName, longestVerdict};
 ghost use Rattle.summary.specs.Putting.{SheetTextPromise, AddedTextPromise};
+use sheets::Added;
 use text::put_byte;
 use text::put_number;
 use text::put_text;
@@ -117,25 +119,27 @@ fn put_name(buffer: &mut [u8], name: &[u8]) -> usize
     name.len()
 }
 
-// Puts what is said of a file behind its name: ok where the number is 0, and else that it was refused with it.
-fn put_verdict(buffer: &mut [u8], at: usize, refused: u32) -> usize
+// Puts what came of a file behind its name: that it was counted, or the number that it was refused with.
+fn put_verdict(buffer: &mut [u8], at: usize, added: Added) -> usize
     requires { ⌜ at ≤ longestName ⌝ }
-    ensures { λ r. ⌜ Puts (verdictText refused) at r (now (buffer .entry)) (now (buffer .exit)) ⌝ }
+    ensures { λ r. ⌜ Puts (verdictText (addedIs added)) at r (now (buffer .entry)) (now (buffer .exit)) ⌝ }
     ensures { λ r. ⌜ r ≤ at + longestVerdict ⌝ }
 {
-    if refused == 0 {
-        return put_text(buffer, at, b" ok");
+    match added {
+        Added::Counted => put_text(buffer, at, b" ok"),
+        Added::Refused(refusal) => {
+            put_named(buffer, at, b" refused ", replies::refusal_number(refusal))
+        }
     }
-    put_named(buffer, at, b" refused ", refused)
 }
 
-// Puts the line of a file that was added, or refused with a number that is not 0; how long it is.
-pub fn put_added(buffer: &mut [u8], name: &[u8], refused: u32) -> usize
+// Puts the line of a file into a buffer: its name, and what adding it came to; how long it is.
+pub fn put_added(buffer: &mut [u8], name: &[u8], added: Added) -> usize
     requires { ⌜ length (now name) ≤ longestName ⌝ }
-    ensures { λ r. ⌜ AddedTextPromise (now (name .entry)) refused (now (buffer .entry)) r (now (buffer .exit)) ⌝ }
+    ensures { λ r. ⌜ AddedTextPromise (now (name .entry)) (addedIs added) (now (buffer .entry)) r (now (buffer .exit)) ⌝ }
     ensures { λ r. ⌜ r ≤ length (now (name .entry)) + 20 ⌝ }
 {
     let named = put_name(buffer, name);
-    let told = put_verdict(buffer, named, refused);
+    let told = put_verdict(buffer, named, added);
     put_text(buffer, told, b"\n")
 }
