@@ -91,7 +91,7 @@ enum {
 };
 
 // Refusals. A step is checked in the order 10, 15, 11, 12, then 13 or 14; an opening in the order 20, 21; a file for a sheet in the
-// order 21, 30, 15, 41. The first that holds is given. 32 and 33 stand in the texts of whole runs alone, and so does 30 but for a sheet.
+// order 21, 30, 15, 41. The first that holds is given. 30, 32 and 33 stand in the texts of whole runs; of these, a sheet gives 30.
 enum {
     ZIDLEMOWO_NOT_WELL_FORMED = 10,  // a step: the words are no well-formed register, or too short for one
     ZIDLEMOWO_NO_HANDLER = 11,       // a step: handler n or above

@@ -77,7 +77,7 @@ impl Sheet {
     /// ```
     /// assert_eq!(zidlemowo::Sheet::HANDLERS, 16);
     /// ```
-    pub const HANDLERS: usize = 16;
+    pub const HANDLERS: u32 = 16;
 
     /// The counts of a handler, and so the words of its row: begun, committed, torn, overtaken, spent.
     ///
@@ -91,7 +91,7 @@ impl Sheet {
     /// ```
     /// assert_eq!(zidlemowo::Sheet::WORDS, 80);
     /// ```
-    pub const WORDS: usize = Sheet::HANDLERS * Sheet::COLUMNS;
+    pub const WORDS: usize = Sheet::HANDLERS as usize * Sheet::COLUMNS;
 
     /// The largest count with which a sheet still takes a file.
     ///
@@ -162,8 +162,8 @@ impl Sheet {
     /// assert_eq!(sheet.counts(2), Some(Counts { begun: 10, committed: 11, torn: 12, overtaken: 13, spent: 14 }));
     /// assert_eq!(sheet.counts(16), None);
     /// ```
-    pub fn counts(&self, handler: usize) -> Option<Counts> {
-        self.words.chunks_exact(Sheet::COLUMNS).nth(handler).map(Counts::of_row)
+    pub fn counts(&self, handler: u32) -> Option<Counts> {
+        self.words.chunks_exact(Sheet::COLUMNS).nth(handler as usize).map(Counts::of_row)
     }
 }
 

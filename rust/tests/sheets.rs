@@ -16,7 +16,7 @@ fn example(name: &str) -> Vec<u8> {
 }
 
 /// The counts of a handler that there is.
-fn of(sheet: &Sheet, handler: usize) -> Counts {
+fn of(sheet: &Sheet, handler: u32) -> Counts {
     sheet.counts(handler).expect("a handler below 16")
 }
 
@@ -30,7 +30,7 @@ fn the_published_listing() {
 }
 
 /// How many lines of a run's text are a handler's and end so: `place handler code reply`.
-fn lines(text: &str, handler: usize, ending: &str) -> u32 {
+fn lines(text: &str, handler: u32, ending: &str) -> u32 {
     let own = |line: &&str| {
         line.split(' ').nth(1) == Some(&handler.to_string())
             && line.split_once(' ').is_some_and(|(_, rest)| rest.ends_with(ending))
