@@ -1,11 +1,10 @@
 -- Adding a file by its ways, and when it is refused with each number: exactly then.
 use Prim.Native.Nat.{ℕ, _≤_, _<_}
-use mathlib.Core.Path.{_≡_, refl, sym, ap, _∙_}
+use mathlib.Core.Path.{_≡_, refl, sym, _∙_}
 use mathlib.Core.Bool.{true, false}
 use mathlib.Core.List.{List, [], _∷_, _++_}
 use mathlib.Core.Logic.{_↔_, _⊎_, inl, inr}
 use mathlib.Core.Option.{Option, none, some, Option·some-ne-none}
-use native.Mathlib.Omega.{arith}
 use lib.Dec.{ltb}
 use lib.ListN.{length}
 use borrow.Author.Tests.{lt-ltb, le-ltb, ltb-true, ltb-false}
@@ -13,10 +12,10 @@ use Rattle.rules.specs.steps.Replies.{Refusal, tooShort, sheetFull}
 use Rattle.rules.specs.steps.Checks.{Check, _when_, firstHit}
 use Rattle.rules.proofs.steps.Given.{exactly}
 use Rattle.rules.proofs.steps.Tables.{by, found}
-use Rattle.schedule.specs.Admitting.{Admission, sound, fileChecks, fileRefusal, admitted, admissionOf}
+use Rattle.schedule.specs.Admitting.{Admission, sound, fileChecks, fileRefusal, admissionOf}
 use Rattle.schedule.proofs.Admits.{file-exactly, good-exactly}
 use Rattle.runs.specs.ByRules.{runOf}
-use Rattle.sheets.specs.Sheets.{linesOf, sheetLong, withLines, isFull, addChecks, addRefusal, addedBy, adding, AddPromise}
+use Rattle.sheets.specs.Sheets.{linesOf, sheetLong, withLines, isFull, addChecks, addRefusal, AddCall, addedBy, adding, AddPromise}
 use Rattle.sheets.specs.Given.{AddGiven, short, bad, full}
 use Rattle.sheets.proofs.Full.{full-at, full-one}
 use Rattle.sheets.proofs.Admitted.{admitted-free, refused-says}
@@ -97,6 +96,12 @@ module _ (words file : List ℕ) where
 
 -- ── Exactly then ──────────────────────────────────────────────────────
 
+-- What adding a file replies is what its checks say.
+reply-said : (call : AddCall) (said : Option Refusal) → addedBy call said .reply ≡ said
+unfolding addedBy
+reply-said call none = refl
+reply-said call (some refusal) = refl
+
 -- Adding a file is refused with each number exactly then, and with no other.
 pub add-exactly : (words file : List ℕ) (refusal : Refusal) → (addRefusal words file ≡ some refusal) ↔ AddGiven words file refusal
 add-exactly words file = exactly (AddGiven words file) hits decided
@@ -116,3 +121,12 @@ add-exactly words file = exactly (AddGiven words file) hits decided
         (λ free. by (isFull words)
         (λ is. let (place, inside, above) = full-one words is in inl (sheetFull, full place long (good-exactly file .0 free) inside above))
         (λ room. inr (says-nothing words file long free room))))
+
+-- So is whatever meets the promise of adding a file.
+pub added-refused : {words file after : List ℕ} {reply : Option Refusal} → AddPromise words file reply after
+    → (refusal : Refusal) → (reply ≡ some refusal) ↔ AddGiven words file refusal
+unfolding adding
+added-refused {words} {file} promise refusal =
+    let given = add-exactly words file refusal in
+    let said = promise .replied ∙ reply-said (record { words = words; file = file }) (addRefusal words file) in
+    (λ e. given .0 (sym said ∙ e), λ g. said ∙ given .1 g)

@@ -8,7 +8,7 @@ use lib.Dec.{ltb}
 use lib.ListN.{length, getD}
 use borrow.Author.Tests.{lt-ltb, le-ltb, ltb-true, ltb-false}
 use Rattle.rules.proofs.steps.Tables.{some-true, some-from, some-false, some-none}
-use Rattle.sheets.specs.Sheets.{sheetLong, columns, countAt, fullAbove, isFull}
+use Rattle.sheets.specs.Sheets.{sheetLong, countAt, fullAbove, isFull}
 use Rattle.sheets.specs.Adding.{CountsTo}
 
 module _ (words : List ℕ) where

@@ -11,7 +11,7 @@ use Rattle.lines.specs.Lines.{Line}
 use Rattle.schedule.specs.Taking.{Cursors}
 use Rattle.runs.specs.Players.{theRegister}
 use Rattle.runs.specs.ByPlaces.{inFront, placesFrom, PlacePromise}
-use Rattle.sheets.specs.Sheets.{sheetLong, fullAbove, counted, withLines}
+use Rattle.sheets.specs.Sheets.{fullAbove, withLines}
 use Rattle.sheets.specs.Adding.{CountsTo, mostRaised}
 use Rattle.sheets.proofs.WithLines.{with-length, counted-with, count-most, with-none, with-front}
 

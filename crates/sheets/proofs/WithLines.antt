@@ -11,10 +11,9 @@ use lib.Dec.{eqb, ltb}
 use lib.ListN.{length, getD, drop, length-append, length-drop}
 use lib.Seq.{drop-at}
 use borrow.Author.Tests.{eqb-true, eqb-false, ne-eqb, ltb-true, ltb-false}
-use Rattle.rules.specs.steps.Tables.{if_then_else_}
 use Rattle.rules.specs.steps.Replies.{Refusal}
 use Rattle.rules.proofs.steps.Tables.{by}
-use Rattle.layout.specs.Rows.{row, rows, part, Untouched}
+use Rattle.layout.specs.Rows.{row, rows, part}
 use Rattle.layout.proofs.Rows.{part-at, part-is, row-length, row-at, rows-length, rows-part, rows-cut}
 use Rattle.layout.proofs.Untouched.{drop-after}
 use Rattle.words.specs.Rows.{Changed}

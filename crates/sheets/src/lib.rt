@@ -2,7 +2,6 @@
 // is added is counted into it.
 // PUBLIC: `add_file` has no `requires`; its promise fixes the reply and every word of the sheet, for all words and files.
 ghost use mathlib.Core.Path.{_≡_};
-ghost use mathlib.Core.List.{List};
 ghost use Prim.Native.Nat.{_+_, _≤_};
 ghost use lib.ListN.{length};
 ghost use Rattle.limits.specs.Limits.{mostFileBytes};

@@ -13,7 +13,8 @@ add-admitted-spec =
     (λ c κs. search needs)
     (λ c. search needs)
     -- full
-    (λ c. let start = c .before .before .before .before .before in add-full _ _ (start .pre .0) (start .pre .1) (sym (c .before .is-full .ensures) ∙ c .if1 .taken))
+    (λ c. let start = c .before .before .before .before .before in
+    add-full _ _ (start .pre .0) (start .pre .1) (sym (c .before .is-full .ensures) ∙ c .if1 .taken))
     -- with room
     (λ c κs. let start = c .before .before .before .before .before .before in
     (full-none _ (sym (c .before .before .is-full .ensures) ∙ c .before .if1 .left) (start .pre .0), start .pre .1))

@@ -5,7 +5,6 @@ use lib.ListN.{length-set}
 use borrow.Author.Needs.{needs}
 use Rattle.words.proofs.Changes.{changed-none, changed-more}
 use Rattle.counts.specs.Rows.{inColumn}
-use Rattle.words.specs.Rows.{Changed}
 use Rattle.sheets.proofs.put_counts.Statement.{statement}
 use Rattle.sheets.proofs.put_counts.Tie as tie
 
