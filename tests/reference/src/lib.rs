@@ -18,4 +18,5 @@ pub mod random;
 pub mod register;
 pub mod runner;
 pub mod schedule;
+pub mod sheet;
 pub mod steps;
