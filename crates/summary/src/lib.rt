@@ -13,6 +13,11 @@ ghost use Rattle.sheets.specs.Sheets.{columns, counted};
 ghost use Rattle.sheets.specs.Meaning.{addedIs};
 ghost use Rattle.summary.specs.Texts.{rowText, longestRow, mostSummary, verdictText, longestName, longestVerdict};
 ghost use Rattle.summary.specs.Putting.{SheetTextPromise, AddedTextPromise};
+use places::BEGUN;
+use places::COMMITTED;
+use places::OVERTAKEN;
+use places::SPENT;
+use places::TORN;
 use sheets::Added;
 use text::put_byte;
 use text::put_number;
@@ -74,25 +79,11 @@ fn put_row(sheet: &[u32], handler: usize, buffer: &mut [u8], at: usize) -> usize
     ensures { λ r. ⌜ r ≤ at + longestRow ⌝ }
 {
     let named = put_named(buffer, at, b"handler ", handler as u32);
-    let begun = put_count(sheet, handler, places::BEGUN, buffer, named, b" begun ");
-    let committed = put_count(
-        sheet,
-        handler,
-        places::COMMITTED,
-        buffer,
-        begun,
-        b" committed ",
-    );
-    let torn = put_count(sheet, handler, places::TORN, buffer, committed, b" abort1 ");
-    let overtaken = put_count(sheet, handler, places::OVERTAKEN, buffer, torn, b" abort2 ");
-    let spent = put_count(
-        sheet,
-        handler,
-        places::SPENT,
-        buffer,
-        overtaken,
-        b" abort3 ",
-    );
+    let begun = put_count(sheet, handler, BEGUN, buffer, named, b" begun ");
+    let committed = put_count(sheet, handler, COMMITTED, buffer, begun, b" committed ");
+    let torn = put_count(sheet, handler, TORN, buffer, committed, b" abort1 ");
+    let overtaken = put_count(sheet, handler, OVERTAKEN, buffer, torn, b" abort2 ");
+    let spent = put_count(sheet, handler, SPENT, buffer, overtaken, b" abort3 ");
     put_text(buffer, spent, b"\n")
 }
 
