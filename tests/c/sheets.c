@@ -27,20 +27,20 @@ struct file {
 
 // The published listing; examples/listing.hex says what its bytes are.
 static const uint8_t listing_bytes[] = {
-    2,  2,  0, 14, 0, 3, 0, 17, 0, 12, 0, 29, 0, 7, // two handlers, two cells, and the table
-    0,  32, 33,                                     // handler 0: begin, read 0, read 1
-    0,  64, 0, 0,  0, 5, 65, 0, 0, 0,  7, 1,        // handler 1: begin, write both, try
-    0,  0,  1, 1,  1, 1, 0,                         // whose step is next
+    2, 2, 0, 14, 0, 3, 0, 17, 0, 12, 0, 29, 0, 7, // two handlers, two cells, and the table
+    0, 32, 33,                                    // handler 0: begin, read 0, read 1
+    0, 64, 0, 0, 0, 5, 65, 0, 0, 0, 7, 1,         // handler 1: begin, write both, try
+    0, 0, 1, 1, 1, 1, 0,                          // whose step is next
 };
 
-// Files that are refused: no byte, a table with a gap, a byte too few, and a code that is unknown in a script that is never ordered.
+// Files that are refused: a table with a gap before the first body, and an unknown code in a script that is never ordered.
 static const uint8_t gap_bytes[] = {1, 1, 0, 11, 0, 0, 0, 11, 0, 0, 0};
 static const uint8_t unknown_bytes[] = {1, 1, 0, 10, 0, 1, 0, 11, 0, 0, 2};
 
-static uint32_t *end;          // where the words lent end: behind it the memory can't be touched
-static uint32_t before[ROOM];  // the words as they were before a call
+static uint32_t *end;                  // where the words lent end: behind it the memory can't be touched
+static uint32_t before[ROOM];          // the words as they were before a call
+static unsigned long refused, counted; // how many files were
 static struct file listing, short_by_one, gap, unknown, too_long;
-static unsigned long refused, counted; // how many calls were
 
 static void fail(const char *what, uint32_t given, uint32_t expected) {
     fprintf(stderr, "sheets: %s: %" PRIu32 ", but expected %" PRIu32 "\n", what, given, expected);
