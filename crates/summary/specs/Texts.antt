@@ -36,7 +36,7 @@ sheetText words = rows mostHandlers (λ handler. rowText handler (counted words 
 abbrev pub longestRow : ℕ
 longestRow = 111
 
--- The most bytes of a sheet's lines.
+-- The most bytes of a sheet's 16 lines.
 abbrev pub mostSummary : ℕ
 mostSummary = 1776
 
@@ -51,7 +51,7 @@ verdictText (some refusal) = named " refused " (refusalNumber refusal)
 abbrev pub addedText : List ℕ → Option Refusal → List ℕ
 addedText name refused = name ++ verdictText refused ++ newline
 
--- The longest name of a file, in bytes.
+-- The longest name of a file that our program takes, in bytes.
 abbrev pub longestName : ℕ
 longestName = 4096
 

@@ -8,7 +8,7 @@ ghost use mathlib.Core.List.{_++_};
 ghost use lib.ListN.{length};
 ghost use Rattle.limits.specs.Limits.{mostHandlers};
 ghost use Rattle.text.specs.Bytes.{decimal};
-ghost use Rattle.text.specs.Lies.{Puts};
+ghost use Rattle.text.specs.Lies.{Puts, farthest};
 ghost use Rattle.sheets.specs.Sheets.{columns, counted};
 ghost use Rattle.sheets.specs.Meaning.{addedIs};
 ghost use Rattle.summary.specs.Texts.{rowText, longestRow, mostSummary, verdictText, longestName, longestVerdict};
@@ -23,13 +23,13 @@ use text::put_byte;
 use text::put_number;
 use text::put_text;
 
-// The most bytes that are put of a sheet.
+// The most bytes that are put of a sheet: 16 lines of 111.
 pub const MOST_SUMMARY: usize = 1776;
 
 // The longest name of a file, in bytes.
 pub const LONGEST_NAME: usize = 4096;
 
-// The most bytes that are put of a file that is added.
+// The most bytes that are put of a file: its name, 19 behind it, and the end of the line.
 pub const MOST_ADDED: usize = LONGEST_NAME + 20;
 
 // A handler's count in a column; words that are missing count as 0.
@@ -46,7 +46,7 @@ fn count_at(sheet: &[u32], handler: usize, column: usize) -> u32
 
 // Puts a word and a number behind it; the place behind both.
 fn put_named(buffer: &mut [u8], at: usize, word: &[u8], number: u32) -> usize
-    requires { ⌜ (at ≤ 8192) × (length (now word) ≤ 16) ⌝ }
+    requires { ⌜ (at ≤ farthest) × (length (now word) ≤ 16) ⌝ }
     ensures { λ r. ⌜ Puts (now (word .entry) ++ decimal number) at r (now (buffer .entry)) (now (buffer .exit)) ⌝ }
     ensures { λ r. ⌜ r ≤ at + length (now (word .entry)) + 10 ⌝ }
 {
@@ -63,7 +63,7 @@ fn put_count(
     at: usize,
     word: &[u8],
 ) -> usize
-    requires { ⌜ (handler < mostHandlers) × (column < columns) × (at ≤ 8192) × (length (now word) ≤ 16) ⌝ }
+    requires { ⌜ (handler < mostHandlers) × (column < columns) × (at ≤ farthest) × (length (now word) ≤ 16) ⌝ }
     ensures { λ r. ⌜ Puts (now (word .entry) ++ decimal (counted (now (sheet .entry)) handler column)) at r
         (now (buffer .entry)) (now (buffer .exit)) ⌝ }
     ensures { λ r. ⌜ r ≤ at + length (now (word .entry)) + 10 ⌝ }
@@ -128,7 +128,7 @@ fn put_verdict(buffer: &mut [u8], at: usize, added: Added) -> usize
 pub fn put_added(buffer: &mut [u8], name: &[u8], added: Added) -> usize
     requires { ⌜ length (now name) ≤ longestName ⌝ }
     ensures { λ r. ⌜ AddedTextPromise (now (name .entry)) (addedIs added) (now (buffer .entry)) r (now (buffer .exit)) ⌝ }
-    ensures { λ r. ⌜ r ≤ length (now (name .entry)) + 20 ⌝ }
+    ensures { λ r. ⌜ r ≤ length (now (name .entry)) + longestVerdict + 1 ⌝ }
 {
     let named = put_name(buffer, name);
     let told = put_verdict(buffer, named, added);

@@ -3,9 +3,9 @@ use Prim.Native.Nat.{_+_, _≤_}
 use native.Mathlib.Omega.{arith}
 use borrow.Author.Needs.{needs}
 use Rattle.text.specs.Lies.{Puts}
-use Rattle.text.proofs.Puts.{puts-both}
 use Rattle.sheets.specs.Sheets.{counted}
 use Rattle.summary.specs.Texts.{rowText}
+use Rattle.summary.proofs.Rows.{row-puts}
 use Rattle.summary.proofs.put_row.Statement.{statement}
 use Rattle.summary.proofs.put_row.Tie as tie
 
@@ -15,6 +15,12 @@ begun c = c .before .before .before .before .before .before .before .before .bef
 
 abbrev start : tie.After-put-count3 → tie.Start
 start c = begun c .before .before .before .before .before .before .before .before .before .before
+
+abbrev torn : tie.After-put-count5 → tie.After-put-count3
+torn c = c .before .before .before .before .before .before .before .before .before .before
+
+abbrev spent : tie.After-put-text → tie.After-put-count5
+spent c = c .before .before .before .before .before
 
 -- Where the first three counts end, and where all end.
 three-end : (c : tie.After-put-count3) → c .put-count3 .result ≤ start c .args .at + 74
@@ -26,20 +32,25 @@ three-end c = omega (
   c .put-count3 .ensures .1,
 )
 
-all-end : (c : tie.After-put-count5) → c .put-count5 .result ≤ start (c .before .before .before .before .before .before .before .before .before .before) .args .at + 110
-all-end c = omega (arith, three-end (c .before .before .before .before .before .before .before .before .before .before), c .before .before .before .before .before .put-count4 .ensures .1, c .put-count5 .ensures .1)
+all-end : (c : tie.After-put-count5) → c .put-count5 .result ≤ start (torn c) .args .at + 110
+all-end c = omega (arith, three-end (torn c), c .before .before .before .before .before .put-count4 .ensures .1, c .put-count5 .ensures .1)
 
 -- The whole line is put.
-row-put : (c : tie.After-put-text) → let given = start (c .before .before .before .before .before .before .before .before .before .before .before .before .before .before .before) .args in
-    Puts (rowText (given .handler) (counted (given .sheet .now) (given .handler))) (given .at) (c .put-text .result) (given .buffer .now) (c .put-text .last .0)
-unfolding rowText
+row-put : (c : tie.After-put-text) → let given = start (torn (spent c)) .args in
+    let text = rowText (given .handler) (counted (given .sheet .now) (given .handler)) in
+    Puts text (given .at) (c .put-text .result) (given .buffer .now) (c .put-text .last .0)
 row-put c =
-    let spent = c .before .before .before .before .before in
-    let overtaken = spent .before .before .before .before .before in
-    let torn = overtaken .before .before .before .before .before in
-    let named = puts-both (begun torn .before .before .before .before .before .put-named .ensures .0) (begun torn .put-count .ensures .0) in
-    let front = puts-both (puts-both named (torn .before .before .before .before .before .put-count2 .ensures .0)) (torn .put-count3 .ensures .0) in
-    puts-both (puts-both (puts-both front (overtaken .put-count4 .ensures .0)) (spent .put-count5 .ensures .0)) (c .put-text .ensures)
+    let given = start (torn (spent c)) .args in
+    row-puts
+    (given .handler)
+    (counted (given .sheet .now) (given .handler))
+    (begun (torn (spent c)) .before .before .before .before .before .put-named .ensures .0)
+    (begun (torn (spent c)) .put-count .ensures .0)
+    (torn (spent c) .before .before .before .before .before .put-count2 .ensures .0)
+    (torn (spent c) .put-count3 .ensures .0)
+    (spent c .before .before .before .before .before .put-count4 .ensures .0)
+    (spent c .put-count5 .ensures .0)
+    (c .put-text .ensures)
 
 pub put-row-spec : {M : Type 1} → statement M
 put-row-spec =
@@ -62,7 +73,7 @@ put-row-spec =
     (start torn .pre .1, omega arith, omega (arith, three-end torn, overtaken .put-count4 .ensures .1, start torn .pre .0), omega arith))
     (λ c. search needs)
     (λ c κs. let spent = c .before .before .before .before in
-    (omega (arith, all-end spent, start (spent .before .before .before .before .before .before .before .before .before .before) .pre .0), omega arith))
+    (omega (arith, all-end spent, start (torn spent) .pre .0), omega arith))
     (λ c. row-put (c .before .before) .size)
     (λ c. let last = c .before .before in
-    (row-put last, omega (arith, all-end (last .before .before .before .before .before), last .put-text .ensures .ends))))
+    (row-put last, omega (arith, all-end (spent last), last .put-text .ensures .ends))))
