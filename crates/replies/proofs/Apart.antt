@@ -12,7 +12,7 @@ use Rattle.replies.specs.declared.Outcome.{Outcome}
 use Rattle.replies.specs.declared.Outcome.the-variants.{Done, Value, Committed, Aborted}
 use Rattle.replies.specs.declared.Refusal.{Refusal}
 use Rattle.replies.specs.declared.Refusal.the-variants.{NotWellFormed, NoHandler, NoCell, AlreadyOpen, NotOpen, UnknownStep}
-use Rattle.replies.specs.declared.Refusal.the-variants.{OutOfRange, TooShort, BadFile, UsedUp, TooManyCommits}
+use Rattle.replies.specs.declared.Refusal.the-variants.{OutOfRange, TooShort, BadFile, UsedUp, TooManyCommits, SheetFull}
 use Rattle.replies.specs.declared.Answer.{Answer}
 use Rattle.replies.specs.declared.Answer.the-variants.{Reported, Refused}
 use Rattle.replies.specs.declared.Opened.{Opened}
@@ -47,6 +47,7 @@ refusalBack Rules.tooShort = TooShort
 refusalBack Rules.badFile = BadFile
 refusalBack Rules.usedUp = UsedUp
 refusalBack Rules.tooManyCommits = TooManyCommits
+refusalBack Rules.sheetFull = SheetFull
 
 pub answerBack : Rules.Reply ℕ → Answer
 answerBack (Rules.reported report) = Reported (record { handler = report .handler; code = report .code; outcome = outcomeBack (report .outcome) })
@@ -88,6 +89,7 @@ refusal-same TooShort = refl
 refusal-same BadFile = refl
 refusal-same UsedUp = refl
 refusal-same TooManyCommits = refl
+refusal-same SheetFull = refl
 
 pub answer-same : (answer : Answer) → answerBack (replyIs answer) ≡ answer
 unfolding answerBack

@@ -8,7 +8,7 @@ use Rattle.replies.specs.declared.Outcome.{Outcome}
 use Rattle.replies.specs.declared.Outcome.the-variants.{Done, Value, Committed, Aborted}
 use Rattle.replies.specs.declared.Refusal.{Refusal}
 use Rattle.replies.specs.declared.Refusal.the-variants.{NotWellFormed, NoHandler, NoCell, AlreadyOpen, NotOpen, UnknownStep}
-use Rattle.replies.specs.declared.Refusal.the-variants.{OutOfRange, TooShort, BadFile, UsedUp, TooManyCommits}
+use Rattle.replies.specs.declared.Refusal.the-variants.{OutOfRange, TooShort, BadFile, UsedUp, TooManyCommits, SheetFull}
 use Rattle.replies.specs.declared.Answer.{Answer}
 use Rattle.replies.specs.declared.Answer.the-variants.{Reported, Refused}
 use Rattle.replies.specs.declared.Numbers.{Numbers}
@@ -41,6 +41,7 @@ refusalIs TooShort = Rules.tooShort
 refusalIs BadFile = Rules.badFile
 refusalIs UsedUp = Rules.usedUp
 refusalIs TooManyCommits = Rules.tooManyCommits
+refusalIs SheetFull = Rules.sheetFull
 
 -- The rules' reply to a step.
 abbrev pub replyIs : Answer → Rules.Reply ℕ

@@ -27,7 +27,7 @@ pub struct Report {
     pub outcome: Outcome,
 }
 
-// Why a step, an opening, a schedule file or an order place is refused, and why the judge stops.
+// Why a step, an opening, a schedule file or an order place is refused, why the judge stops, and why a sheet takes no file.
 pub enum Refusal {
     NotWellFormed,
     NoHandler,
@@ -40,6 +40,7 @@ pub enum Refusal {
     BadFile,
     UsedUp,
     TooManyCommits,
+    SheetFull,
 }
 
 // The answer to a step.
@@ -93,6 +94,7 @@ pub fn refusal_number(refusal: Refusal) -> u32
         Refusal::BadFile => 30,
         Refusal::UsedUp => 32,
         Refusal::TooManyCommits => 33,
+        Refusal::SheetFull => 41,
     }
 }
 

@@ -7,7 +7,7 @@ use lib.Dec.{eqb}
 use Rattle.rules.specs.steps.Tables.{if_then_else_}
 use Rattle.rules.specs.steps.Replies.{Reason, torn, overtaken, spent, Outcome, ok, value, committed, aborted, Refusal}
 use Rattle.rules.specs.steps.Replies.{notWellFormed, noHandler, noCell, alreadyOpen, notOpen, unknownStep, outOfRange}
-use Rattle.rules.specs.steps.Replies.{tooShort, badFile, usedUp, tooManyCommits, reasonNumber, refusalNumber}
+use Rattle.rules.specs.steps.Replies.{tooShort, badFile, usedUp, tooManyCommits, sheetFull, reasonNumber, refusalNumber}
 use Rattle.rules.specs.steps.Replies.{Numbers, outcomeNumbers, refusalNumbers}
 
 -- Different things have different images.
@@ -30,7 +30,7 @@ refusalBack n =
     else (if eqb n 14 then notOpen else (if eqb n 15 then unknownStep
     else (if eqb n 20 then outOfRange else (if eqb n 21 then tooShort
     else (if eqb n 30 then badFile else (if eqb n 32 then usedUp
-    else tooManyCommits)))))))))
+    else (if eqb n 33 then tooManyCommits else sheetFull))))))))))
 
 -- The outcome of an answer in numbers.
 outcomeBack : Numbers → Outcome ℕ
@@ -59,6 +59,7 @@ refusal-back tooShort = refl
 refusal-back badFile = refl
 refusal-back usedUp = refl
 refusal-back tooManyCommits = refl
+refusal-back sheetFull = refl
 
 -- An outcome comes back from its numbers.
 outcome-back : (outcome : Outcome ℕ) → outcomeBack (outcomeNumbers outcome) ≡ outcome
