@@ -2,8 +2,8 @@
 use Prim.Native.Nat.{ℕ}
 use native.Mathlib.Omega.{arith}
 use mathlib.Core.Path.{_≡_, refl}
-use Rattle.rules.specs.steps.Codes.{Step, begin, try, read, write}
-use Rattle.rules.specs.steps.Replies.{Reason, Outcome, ok, value, committed, aborted}
+use Rattle.rules.specs.steps.Codes.{Step, begin, try, giveUp, read, write}
+use Rattle.rules.specs.steps.Replies.{Reason, gaveUp, Outcome, ok, value, committed, aborted}
 use Rattle.rules.specs.steps.Register.{Setting, Handler, Register, withHandler, idle}
 use Rattle.rules.specs.steps.Figure.{Result, aborting, step}
 use Rattle.rules.proofs.steps.Tables.{put-other}
@@ -39,11 +39,12 @@ module _ {W : Type 0} where
   value-no-abort v reason e = let z : _≡_ {A = ℕ} 0 1 = cc in omega arith
 
 module _ {W : Type 0} (S : Setting W) where
-  -- Begin, read and write change one handler only.
+  -- Begin, read, write and give up change one handler only.
   pub changes-one : (r : Register W) (i : ℕ) (s : Step) (v : W) → (s ≡ try → ⊥) → OneHandler r i (step S r i s v .after)
   unfolding step aborting
   changes-one r i begin v ne = one-changed r i _
   changes-one r i try v ne = absurd (ne refl)
+  changes-one r i giveUp v ne = one-changed r i _
   changes-one r i (read x) v ne =
       reading-cases S r i (r .handlers i) (λ result. OneHandler r i (result .after)) x
       (λ copied. unchanged r i) (λ first isTorn. one-changed r i _) (λ first isTaken. one-changed r i _)
@@ -75,3 +76,9 @@ module _ {W : Type 0} (S : Setting W) where
   abort-ends r i try v reason =
       trying-cases S r i (r .handlers i) (EndsIdle r i reason)
       (λ stale e. refl) (λ current full e. refl) (λ current roomy e. absurd (commit-no-abort reason e))
+  abort-ends r i giveUp v reason = λ e. refl
+
+  -- A give up always comes to abort 5. What it leaves is what every abort does (abort-ends).
+  pub give-up-aborts : (r : Register W) (i : ℕ) (v : W) → step S r i giveUp v .outcome ≡ aborted gaveUp
+  unfolding step
+  give-up-aborts r i v = refl
