@@ -33,9 +33,9 @@ published = record {
 unfoldable pub empty : Listing
 empty = record { file = []; text = written ("refused 30" ∷ []) }
 
--- A script with the unknown code 2, which is not ordered.
+-- A script with the unknown code 3, which is not ordered.
 unfoldable pub unknown : Listing
-unknown = record { file = 1 ∷ 1 ∷ 0 ∷ 10 ∷ 0 ∷ 1 ∷ 0 ∷ 11 ∷ 0 ∷ 0 ∷ 2 ∷ []; text = written ("refused 15" ∷ []) }
+unknown = record { file = 1 ∷ 1 ∷ 0 ∷ 10 ∷ 0 ∷ 1 ∷ 0 ∷ 11 ∷ 0 ∷ 0 ∷ 3 ∷ []; text = written ("refused 15" ∷ []) }
 
 -- An order that names handler 1 of one handler, and handler 0 once too often.
 unfoldable pub unordered : Listing
