@@ -1,9 +1,9 @@
 -- What a reader expects of the steps: what each leaves alone, and what an abort leaves. Properties are numbered as in PI 1923.
 use Prim.Native.Nat.{ℕ}
 use native.Mathlib.Omega.{arith}
-use mathlib.Core.Path.{_≡_, refl}
+use mathlib.Core.Path.{_≡_, refl, ap}
 use Rattle.rules.specs.steps.Codes.{Step, begin, try, giveUp, read, write}
-use Rattle.rules.specs.steps.Replies.{Reason, gaveUp, Outcome, ok, value, committed, aborted}
+use Rattle.rules.specs.steps.Replies.{Reason, gaveUp, Outcome, ok, value, committed, aborted, reasonNumber}
 use Rattle.rules.specs.steps.Register.{Setting, Handler, Register, withHandler, idle}
 use Rattle.rules.specs.steps.Figure.{Result, aborting, step}
 use Rattle.rules.proofs.steps.Tables.{put-other}
@@ -37,6 +37,10 @@ module _ {W : Type 0} where
   -- nor is a value.
   pub value-no-abort : (v : W) (reason : Reason) → value v ≡ aborted reason → ⊥
   value-no-abort v reason e = let z : _≡_ {A = ℕ} 0 1 = cc in omega arith
+
+  -- Two aborts that are the same have one number.
+  same-number : {a b : Reason} → _≡_ {A = Outcome W} (aborted a) (aborted b) → reasonNumber a ≡ reasonNumber b
+  same-number {a} {b} e = let same : a ≡ b = cc in ap reasonNumber same
 
 module _ {W : Type 0} (S : Setting W) where
   -- Begin, read, write and give up change one handler only.
@@ -82,3 +86,20 @@ module _ {W : Type 0} (S : Setting W) where
   pub give-up-aborts : (r : Register W) (i : ℕ) (v : W) → step S r i giveUp v .outcome ≡ aborted gaveUp
   unfolding step
   give-up-aborts r i v = refl
+
+  -- No other step comes to it.
+  pub only-give-up : (r : Register W) (i : ℕ) (s : Step) (v : W) → step S r i s v .outcome ≡ aborted gaveUp → s ≡ giveUp
+  unfolding step
+  only-give-up r i begin v = λ e. absurd (ok-no-abort gaveUp e)
+  only-give-up r i (write x) v = λ e. absurd (ok-no-abort gaveUp e)
+  only-give-up r i giveUp v = λ e. refl
+  only-give-up r i (read x) v =
+      reading-cases S r i (r .handlers i) (λ result. result .outcome ≡ aborted gaveUp → read x ≡ giveUp) x
+      (λ copied e. absurd (value-no-abort _ gaveUp e))
+      (λ first isTorn e. let numbers : 1 ≡ 5 = same-number e in absurd (omega arith))
+      (λ first isTaken e. absurd (value-no-abort _ gaveUp e))
+  only-give-up r i try v =
+      trying-cases S r i (r .handlers i) (λ result. result .outcome ≡ aborted gaveUp → try ≡ giveUp)
+      (λ stale e. let numbers : 2 ≡ 5 = same-number e in absurd (omega arith))
+      (λ current full e. let numbers : 3 ≡ 5 = same-number e in absurd (omega arith))
+      (λ current roomy e. absurd (commit-no-abort gaveUp e))

@@ -26,7 +26,7 @@ Roomy S r h = (z : ℕ) → z < S .cellCount → h .writtenSet z ≡ true → r 
 unfoldable pub Torn : {W : Type 0} → Setting W → Handler W → Cell W → Type 0
 Torn S h c = (y : ℕ) × (y < S .cellCount) × (h .readSet y ≡ true) × (h .transaction y < c .numbers y)
 
--- When a try is aborted with each reason: 2 goes before 3. No try is a read, nor gives up.
+-- When a try is aborted with each reason: 2 goes before 3. Abort 1 is a read's, and abort 5 a give up's.
 abbrev pub TryAborted : {W : Type 0} → Setting W → Reason → Register W → Handler W → Type 0
 TryAborted S torn r h = ⊥
 TryAborted S overtaken r h = Stale S r h
