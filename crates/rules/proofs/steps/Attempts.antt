@@ -148,8 +148,8 @@ module _ {W : Type 0} (S : Setting W) where
       ))
       (λ current roomy. (λ e. (current, roomy), λ g. refl))
 
-  -- Property 6, as docs/RULES.md has it: a transaction with an empty read set commits, or is aborted with 3 and has written a cell
-  -- whose number stands at 65,535.
+  -- Property 6, as docs/RULES.md has it, of a try: a transaction with an empty read set commits, or is aborted with 3 and has written a
+  -- cell whose number stands at 65,535.
   pub write-only-commits : (r : Register W) (i : ℕ) (v : W) → ((z : ℕ) → z < S .cellCount → r .handlers i .readSet z ≡ false)
       → (step S r i try v .outcome ≡ committed) ⊎ ((step S r i try v .outcome ≡ aborted spent) × Spent S r (r .handlers i))
   unfolding Stale
