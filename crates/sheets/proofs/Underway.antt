@@ -50,8 +50,8 @@ pub record Underway (file : List ℕ) (places : ℕ) (cursors : Cursors) (place 
 pub underway-start : {file : List ℕ} {places : ℕ} {cursors : Cursors} {words sheet : List ℕ} → CountsTo fullAbove sheet
     → Underway file places cursors 0 words sheet sheet (linesFrom file places cursors 0 words)
 underway-start {places = places} to =
-    let none : places - 0 ≡ places = omega arith in
-    record { room = to; size = refl; lines = rw none }
+    let whole : places - 0 ≡ places = omega arith in
+    record { room = to; size = refl; lines = rw whole }
 
 -- At every place of a file each count can still be raised.
 pub underway-room : {file : List ℕ} {places : ℕ} {cursors : Cursors} {place : ℕ} {words before now : List ℕ} {all : List Line}
