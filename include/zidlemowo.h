@@ -1,12 +1,12 @@
-// The proved register for programs in C11 and C++17: three functions on words that the caller lends, and two that run a whole
-// schedule file.
+// The proved register for programs in C11 and C++17: three functions on words that the caller lends, two that run a whole schedule
+// file, and one that counts the replies of such runs in a duty sheet.
 //
 // A register has m cells (1 to 32) and n handlers (1 to 16). A handler runs one transaction at a time, in four steps: begin, read a
 // cell, write a cell, try to commit. Every reply, and every word left behind, is proved to be what docs/PROMISES.md promises, for
 // any words, handler, code and value: bad input is refused by number and changes nothing.
 //
 // Link with target/staticlib/libgateway.a, which `rt staticlib gateway` proves and builds for x86-64 Linux. It needs nothing of the
-// C library but memcpy and memset. examples/gateway.c and examples/run.c are whole programs.
+// C library but memcpy and memset. examples/gateway.c, examples/run.c and examples/sheet.c are whole programs.
 //
 // docs/RULES.md has the rules, docs/REPLIES.md every number that is given; zidlemowo_text says in words what it means, for a log.
 //
@@ -21,7 +21,7 @@
 //
 // Threads. No function takes a lock, and none keeps anything outside the words. One register takes one step at a time: two calls on
 // the same words must not overlap, an opening among them, and nothing else may read or write the words during a call. Calls on
-// different words, or into different outputs, may overlap.
+// different words, or into different outputs, may overlap. A sheet's words are as a register's in all of this.
 #ifndef ZIDLEMOWO_H
 #define ZIDLEMOWO_H
 
@@ -46,7 +46,12 @@ enum {
     ZIDLEMOWO_MOST_NUMBER = 65535,    // the largest number of a cell, a handler or a transaction
     ZIDLEMOWO_MOST_FILE = 65535,      // the most bytes of a schedule file: a longer one is refused with 30
     ZIDLEMOWO_MOST_PRINTED = 2230434, // no text of a whole run has more bytes, whatever the file
+    ZIDLEMOWO_SHEET_WORDS = 80,       // the words of a duty sheet: a row for each of 16 handlers, however many a file has
+    ZIDLEMOWO_SHEET_COLUMNS = 5,      // the words of a row: handler h's begins at word 5h
 };
+
+// The largest count with which a duty sheet still takes a file. It is no int, so it is no constant of an enum.
+#define ZIDLEMOWO_SHEET_MOST UINT32_C(4294000000)
 
 // The words of a register of m cells and n handlers, both in range, as a constant, to declare an array with: 2 + m(m+1) + n(3+3m).
 #define ZIDLEMOWO_WORDS(m, n) (2u + (m) * ((m) + 1u) + (n) * (3u + 3u * (m)))
@@ -76,20 +81,30 @@ enum {
     ZIDLEMOWO_SPENT = 3,     // a try, no cell overtaken: a written cell's number stands at 65,535, and so for good
 };
 
-// Refusals. A step is checked in the order 10, 15, 11, 12, then 13 or 14; an opening in the order 20, 21. The first that holds is
-// given. 30, 32 and 33 stand in the texts of whole runs alone.
+// The columns of a duty sheet: where each count stands in a handler's row.
+enum {
+    ZIDLEMOWO_SHEET_BEGUN = 0,     // transactions begun
+    ZIDLEMOWO_SHEET_COMMITTED = 1, // transactions committed
+    ZIDLEMOWO_SHEET_TORN = 2,      // transactions aborted by reason 1
+    ZIDLEMOWO_SHEET_OVERTAKEN = 3, // transactions aborted by reason 2
+    ZIDLEMOWO_SHEET_SPENT = 4,     // transactions aborted by reason 3
+};
+
+// Refusals. A step is checked in the order 10, 15, 11, 12, then 13 or 14; an opening in the order 20, 21; a file for a sheet in the
+// order 21, 30, 15, 41. The first that holds is given. 30, 32 and 33 stand in the texts of whole runs; of these, a sheet gives 30.
 enum {
     ZIDLEMOWO_NOT_WELL_FORMED = 10,  // a step: the words are no well-formed register, or too short for one
     ZIDLEMOWO_NO_HANDLER = 11,       // a step: handler n or above
     ZIDLEMOWO_NO_CELL = 12,          // a step: read or write of cell m or above
     ZIDLEMOWO_ALREADY_OPEN = 13,     // a step: begin while open
     ZIDLEMOWO_NOT_OPEN = 14,         // a step: read, write or try while idle
-    ZIDLEMOWO_UNKNOWN_STEP = 15,     // a step: a code that stands for no step
+    ZIDLEMOWO_UNKNOWN_STEP = 15,     // a step: a code that stands for no step; a file: also a write cut short
     ZIDLEMOWO_OUT_OF_RANGE = 20,     // an opening: m or n out of range
-    ZIDLEMOWO_TOO_SHORT = 21,        // an opening: a buffer shorter than the register
+    ZIDLEMOWO_TOO_SHORT = 21,        // an opening: a buffer shorter than the register; a sheet: one shorter than 80 words
     ZIDLEMOWO_BAD_FILE = 30,         // a schedule file: too long, m or n out of range, or a bad table
     ZIDLEMOWO_USED_UP = 32,          // an order place: the handler's script is used up
     ZIDLEMOWO_TOO_MANY_COMMITS = 33, // the judge: a try that would be the 65th commit
+    ZIDLEMOWO_SHEET_FULL = 41,       // a sheet: it holds a count above 4,294,000,000
 };
 
 // The words that a register of m cells and n handlers needs; 0 where m or n is out of range.
@@ -117,6 +132,15 @@ size_t zidlemowo_run(const uint8_t *file, size_t file_length, uint8_t *output, s
 // a 65th commit, where the text ends with a line `refused 33`. In all else it is as zidlemowo_run. The judge's words, some 22 KB, are
 // on the stack during the call.
 size_t zidlemowo_judge(const uint8_t *file, size_t file_length, uint8_t *output, size_t output_length);
+
+// Adds a schedule file to the duty sheet in front of `length` words. The file is run from a fresh register, and each reply of its run
+// is counted in its handler's row: a begin that is done, a commit, and an abort by its reason. Gives 0, or the refusal, which changes
+// nothing: ZIDLEMOWO_TOO_SHORT for fewer than 80 words, ZIDLEMOWO_BAD_FILE, ZIDLEMOWO_UNKNOWN_STEP, or ZIDLEMOWO_SHEET_FULL where any
+// count of the 16 handlers is above ZIDLEMOWO_SHEET_MOST already. The reply and every word are proved, for any words and any file.
+//
+// A fresh sheet is 80 words of 0. Any others are a sheet too, with the counts that they hold; so a sheet may be kept and taken up again.
+// Words behind the 80 are never changed. The file is read only, and the two must not overlap; either may be NULL where its length is 0.
+uint32_t zidlemowo_sheet(uint32_t *counts, size_t length, const uint8_t *file, size_t file_length);
 
 // The kind of a reply to a step: ZIDLEMOWO_OK to ZIDLEMOWO_REFUSED.
 static inline uint32_t zidlemowo_kind(uint64_t reply) { return (uint32_t)(reply >> 32); }
@@ -151,7 +175,7 @@ static inline const char *zidlemowo_reason_text(uint32_t reason) {
     }
 }
 
-// A refusal in words, for a log: that of a step, or the number that an opening gives where it is not 0.
+// A refusal in words, for a log: that of a step, or the number that an opening or a sheet gives where it is not 0.
 static inline const char *zidlemowo_refusal_text(uint32_t refusal) {
     switch (refusal) {
     case ZIDLEMOWO_NOT_WELL_FORMED: return "the words are no well-formed register, or too few for one";
@@ -161,10 +185,11 @@ static inline const char *zidlemowo_refusal_text(uint32_t refusal) {
     case ZIDLEMOWO_NOT_OPEN: return "the handler has no open transaction";
     case ZIDLEMOWO_UNKNOWN_STEP: return "no step has this code";
     case ZIDLEMOWO_OUT_OF_RANGE: return "a register has 1 to 32 cells and 1 to 16 handlers";
-    case ZIDLEMOWO_TOO_SHORT: return "too few words for a register of this size";
+    case ZIDLEMOWO_TOO_SHORT: return "too few words for a register of this size, or for a sheet";
     case ZIDLEMOWO_BAD_FILE: return "these bytes are no schedule file";
     case ZIDLEMOWO_USED_UP: return "the script of this handler is used up";
     case ZIDLEMOWO_TOO_MANY_COMMITS: return "the judge notes 64 commits, and this would be the 65th";
+    case ZIDLEMOWO_SHEET_FULL: return "a count of the sheet is above 4,294,000,000";
     default: return zidlemowo_no_text();
     }
 }

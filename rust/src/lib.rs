@@ -59,7 +59,8 @@
 //!   it already;
 //! - leave it open. It stands in the way of no other handler.
 //!
-//! A whole schedule file is run at once by [`run`] and judged by [`judge`], which give what the programs print of it.
+//! A whole schedule file is run at once by [`run`] and judged by [`judge`], which give what the programs print of it. A [`Sheet`] counts
+//! over many files what each handler began, committed and had aborted.
 #![deny(missing_docs, unsafe_code)]
 
 #[allow(unsafe_code)]
@@ -69,6 +70,7 @@ mod register;
 mod replies;
 mod runs;
 mod shared;
+mod sheet;
 mod step;
 mod transact;
 
@@ -77,5 +79,6 @@ pub use register::{needed, Register};
 pub use replies::Reply;
 pub use runs::{judge, judge_into, run, run_into, MOST_PRINTED};
 pub use shared::Shared;
+pub use sheet::{Counts, Sheet};
 pub use step::Step;
 pub use transact::{NotCommitted, Stopped, Transaction};

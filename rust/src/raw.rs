@@ -9,6 +9,7 @@ extern "C" {
     fn zidlemowo_step(words: *mut u32, long: usize, handler: u32, code: u32, value: u32) -> u64;
     fn zidlemowo_run(file: *const u8, file_long: usize, output: *mut u8, output_long: usize) -> usize;
     fn zidlemowo_judge(file: *const u8, file_long: usize, output: *mut u8, output_long: usize) -> usize;
+    fn zidlemowo_sheet(counts: *mut u32, long: usize, file: *const u8, file_long: usize) -> u32;
 }
 
 /// The words that a register needs; 0 where m or n is out of range.
@@ -39,4 +40,10 @@ pub fn run(file: &[u8], output: &mut [u8]) -> usize {
 pub fn judge(file: &[u8], output: &mut [u8]) -> usize {
     // SAFETY: each pointer and length are those of one slice that is lent for the call alone.
     unsafe { zidlemowo_judge(file.as_ptr(), file.len(), output.as_mut_ptr(), output.len()) }
+}
+
+/// Adds a file to a duty sheet: 0, or the refusal's number.
+pub fn sheet(counts: &mut [u32], file: &[u8]) -> u32 {
+    // SAFETY: each pointer and length are those of one slice that is lent for the call alone.
+    unsafe { zidlemowo_sheet(counts.as_mut_ptr(), counts.len(), file.as_ptr(), file.len()) }
 }

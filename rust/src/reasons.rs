@@ -70,7 +70,8 @@ impl fmt::Display for Abort {
 
 impl Error for Abort {}
 
-/// Why something was refused. Nothing is changed by it. 30, 32 and 33 are of schedule files and the judge; no register gives them.
+/// Why something was refused. Nothing is changed by it. 30, 32, 33 and 41 are of schedule files, the judge and the duty sheet; no
+/// register gives them.
 ///
 /// ```
 /// use zidlemowo::Refusal;
@@ -93,7 +94,7 @@ pub enum Refusal {
     UnknownStep = 15,
     /// Opening with m or n out of range.
     OutOfRange = 20,
-    /// Opening with a buffer shorter than the register.
+    /// Opening with a buffer shorter than the register; a duty sheet with fewer than 80 words.
     TooShort = 21,
     /// A schedule file that is too long, has m or n out of range, or a bad table.
     BadFile = 30,
@@ -101,15 +102,17 @@ pub enum Refusal {
     UsedUp = 32,
     /// The judge: a try that would be the 65th commit.
     TooManyCommits = 33,
+    /// A duty sheet that already holds a count above 4,294,000,000.
+    SheetFull = 41,
 }
 
 impl Refusal {
     /// Every refusal.
     ///
     /// ```
-    /// assert_eq!(zidlemowo::Refusal::ALL.len(), 11);
+    /// assert_eq!(zidlemowo::Refusal::ALL.len(), 12);
     /// ```
-    pub const ALL: [Refusal; 11] = [
+    pub const ALL: [Refusal; 12] = [
         Refusal::NotWellFormed,
         Refusal::NoHandler,
         Refusal::NoCell,
@@ -121,6 +124,7 @@ impl Refusal {
         Refusal::BadFile,
         Refusal::UsedUp,
         Refusal::TooManyCommits,
+        Refusal::SheetFull,
     ];
 
     /// The refusal's number.
@@ -144,11 +148,11 @@ impl Refusal {
         Refusal::ALL.into_iter().find(|refusal| refusal.number() == number)
     }
 
-    /// What the number that an opening gives comes to.
-    pub(crate) fn of_opening(number: u32) -> Result<(), Refusal> {
+    /// What the number that an opening or a duty sheet gives comes to.
+    pub(crate) fn of_number(number: u32) -> Result<(), Refusal> {
         match number {
             0 => Ok(()),
-            _ => Err(Refusal::from_number(number).expect("an opening is refused with a number of docs/REPLIES.md")),
+            _ => Err(Refusal::from_number(number).expect("whatever is refused has a number of docs/REPLIES.md")),
         }
     }
 
@@ -166,10 +170,11 @@ impl Refusal {
             Refusal::NotOpen => "the handler has no open transaction",
             Refusal::UnknownStep => "no step has this code",
             Refusal::OutOfRange => "a register has 1 to 32 cells and 1 to 16 handlers",
-            Refusal::TooShort => "too few words for a register of this size",
+            Refusal::TooShort => "too few words for a register of this size, or for a sheet",
             Refusal::BadFile => "these bytes are no schedule file",
             Refusal::UsedUp => "the script of this handler is used up",
             Refusal::TooManyCommits => "the judge notes 64 commits, and this would be the 65th",
+            Refusal::SheetFull => "a count of the sheet is above 4,294,000,000",
         }
     }
 }

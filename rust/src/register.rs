@@ -46,7 +46,7 @@ impl Register<'static> {
     /// ```
     pub fn new(cells: u32, handlers: u32) -> Result<Register<'static>, Refusal> {
         let mut words = vec![0; needed(cells, handlers).unwrap_or(0)];
-        Refusal::of_opening(raw::open(&mut words, cells, handlers))?;
+        Refusal::of_number(raw::open(&mut words, cells, handlers))?;
         Ok(Register { words: Words::Own(words) })
     }
 }
@@ -65,7 +65,7 @@ impl<'a> Register<'a> {
     /// # Ok::<(), Refusal>(())
     /// ```
     pub fn open(words: &'a mut [u32], cells: u32, handlers: u32) -> Result<Register<'a>, Refusal> {
-        Refusal::of_opening(raw::open(words, cells, handlers))?;
+        Refusal::of_number(raw::open(words, cells, handlers))?;
         Ok(Register::resume(words))
     }
 

@@ -40,6 +40,7 @@ static uint64_t answer(const struct request *request, const uint8_t *file, void 
     case STEP: return zidlemowo_step(words, length, a, b, c);
     case RUN: return zidlemowo_run(file, request->read_only, changeable, request->changeable);
     case JUDGE: return zidlemowo_judge(file, request->read_only, changeable, request->changeable);
+    case SHEET: return zidlemowo_sheet(words, length, file, request->read_only);
     default: fail("a request for no function"); return 0;
     }
 }

@@ -78,3 +78,7 @@ size_t zidlemowo_run(const uint8_t *file, size_t file_length, uint8_t *output, s
 size_t zidlemowo_judge(const uint8_t *file, size_t file_length, uint8_t *output, size_t output_length) {
     return (size_t)call((struct request){JUDGE, file_length, output_length, {0, 0, 0}}, file, output);
 }
+
+uint32_t zidlemowo_sheet(uint32_t *counts, size_t length, const uint8_t *file, size_t file_length) {
+    return (uint32_t)call((struct request){SHEET, file_length, length * sizeof *counts, {0, 0, 0}}, file, counts);
+}

@@ -12,7 +12,7 @@
 #include <unistd.h>
 
 // The functions of zidlemowo.h.
-enum { LENGTH, OPEN, STEP, RUN, JUDGE };
+enum { LENGTH, OPEN, STEP, RUN, JUDGE, SHEET };
 
 // A call: which function, how many bytes follow of each kind, and its numbers in their order, 0 where it has fewer.
 struct request {

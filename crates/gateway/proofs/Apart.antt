@@ -1,8 +1,9 @@
--- Nothing of an answer is lost in its number: a length, the answer to an opening and the answer to a step can each be told from it.
+-- Nothing of an answer is lost in its number: a length, the answer to an opening, to a step and to a file for a sheet can each be told
+-- from it.
 use Prim.Native.Nat.{ℕ, _^_, _≤_, _<_}
 use native.Mathlib.Omega.{arith}
 use mathlib.Core.Path.{_≡_, refl, sym, ap}
-use mathlib.Core.Option.{none}
+use mathlib.Core.Option.{none, some}
 use Rattle.rules.specs.steps.Replies.{torn, overtaken, spent, gaveUp, Outcome, ok, value, committed, aborted, Refusal, Reply, reported, Opening}
 use Rattle.rules.specs.steps.Replies.{ready, notWellFormed, noHandler, noCell, alreadyOpen, notOpen, unknownStep, outOfRange, tooShort}
 use Rattle.rules.specs.steps.Replies.{badFile, usedUp, tooManyCommits, sheetFull}
@@ -13,7 +14,7 @@ use Rattle.rules.proofs.steps.Tables.{by}
 use Rattle.rules.proofs.steps.Numbers.{Injective, refusals-apart, outcomes-apart, outcome-no-refusal}
 use Rattle.layout.specs.Places.{size}
 use Rattle.promises.specs.Lengths.{lengthFor}
-use Rattle.gateway.specs.Packed.{lengthNumber, openingNumber, packed}
+use Rattle.gateway.specs.Packed.{lengthNumber, openingNumber, packed, addedNumber}
 
 -- ── Kind and detail ───────────────────────────────────────────────────
 
@@ -89,7 +90,7 @@ step-told (stopped a) (stopped b) e =
     let same = packed-apart (refusalNumbers a) (refusalNumbers b) (refusal-between a .1) (refusal-between b .1) e in
     ap Reply.refused (refusals-apart a b (ap (λ n. n .detail) same))
 
--- ── An opening, and a length ──────────────────────────────────────────
+-- ── An opening, a length, and a sheet ─────────────────────────────────
 
 -- What an opening was answered can be told from its number.
 pub opening-told : Injective openingNumber
@@ -104,3 +105,10 @@ unfolding lengthFor
 length-told m n e = by (inRange m n)
     (λ inside. let long : size m n ≡ 0 = rw inside at e in absurd (omega (arith, long)))
     (λ outside. rw outside)
+
+-- What was answered to a file for a sheet can be told from its number.
+pub added-told : Injective addedNumber
+added-told none none e = refl
+added-told none (some b) e = absurd (omega (arith, e, refusal-between b .0))
+added-told (some a) none e = absurd (omega (arith, e, refusal-between a .0))
+added-told (some a) (some b) e = ap some (refusals-apart a b e)

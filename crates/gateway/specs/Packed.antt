@@ -1,12 +1,14 @@
--- The promises of the register said of numbers: 0 or a length, 0 or a refusal's number, and kind · 2^32 + value or number.
+-- The promises of the register and of a duty sheet said of numbers: 0 or a length, 0 or a refusal's number, and kind · 2^32 + value or
+-- number.
 use Prim.Native.Nat.{ℕ, _+_, _*_, _^_}
 use mathlib.Core.List.{List}
 use mathlib.Core.Option.{Option, none, some}
 use Rattle.rules.specs.Promise.{Due, Promise}
-use Rattle.rules.specs.steps.Replies.{Opening, ready, refused, refusalNumber, Numbers, Reply, replyNumbers}
+use Rattle.rules.specs.steps.Replies.{Opening, ready, refused, Refusal, refusalNumber, Numbers, Reply, replyNumbers}
 use Rattle.promises.specs.Lengths.{asksLength}
 use Rattle.promises.specs.Opening.{opening}
 use Rattle.promises.specs.Stepping.{stepping}
+use Rattle.sheets.specs.Sheets.{adding}
 
 -- A length as a number, 0 where there is none.
 abbrev pub lengthNumber : Option ℕ → ℕ
@@ -43,3 +45,12 @@ replyNumber reply = packed (replyNumbers reply)
 abbrev pub StepNumber : List ℕ → ℕ → ℕ → ℕ → ℕ → List ℕ → Type 0
 StepNumber words handler code value number after =
     Promise (inNumbers replyNumber stepping) (record { words = words; handler = handler; code = code; value = value }) number after
+
+-- The reply to a file for a sheet as a number: 0, or the refusal's.
+abbrev pub addedNumber : Option Refusal → ℕ
+addedNumber none = 0
+addedNumber (some refusal) = refusalNumber refusal
+
+-- The promise of adding a file to a sheet.
+abbrev pub SheetNumber : List ℕ → List ℕ → ℕ → List ℕ → Type 0
+SheetNumber words file number after = Promise (inNumbers addedNumber adding) (record { words = words; file = file }) number after

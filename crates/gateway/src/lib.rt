@@ -1,11 +1,12 @@
-// The register for programs in C and Rust: exported functions on numbers and words, thin over `register` and `prints`.
-// PUBLIC: nothing here has a `requires`. Each promise is the register's, said of numbers, or a whole run's.
+// The register for programs in C and Rust: exported functions on numbers and words, thin over `register`, `prints` and `sheets`.
+// PUBLIC: nothing here has a `requires`. Each promise is the register's or a sheet's, said of numbers, or a whole run's.
 ghost use mathlib.Core.Path.{_≡_};
 ghost use Prim.Native.Nat.{_+_, _*_, _^_, _≤_};
 ghost use Rattle.prints.specs.Printed.{RunPromise, JudgedRunPromise};
-ghost use Rattle.gateway.specs.Packed.{LengthNumber, OpeningNumber, StepNumber};
+ghost use Rattle.gateway.specs.Packed.{LengthNumber, OpeningNumber, StepNumber, SheetNumber};
 use register::Needed;
 use replies::Opened;
+use sheets::Added;
 
 // The words that a register of m cells and n handlers needs; 0 where m or n is out of range.
 #[no_mangle]
@@ -60,4 +61,15 @@ pub extern "C" fn zidlemowo_judge(file: &[u8], output: &mut [u8]) -> usize
     ensures { λ r. ⌜ JudgedRunPromise (now (file .entry)) (now (output .entry)) r (now (output .exit)) ⌝ }
 {
     prints::judge(file, output)
+}
+
+// Adds a schedule file to a duty sheet: 0, or the refusal's number.
+#[no_mangle]
+pub extern "C" fn zidlemowo_sheet(counts: &mut [u32], file: &[u8]) -> u32
+    ensures { λ r. ⌜ SheetNumber (now (counts .entry)) (now (file .entry)) r (now (counts .exit)) ⌝ }
+{
+    match sheets::add_file(counts, file) {
+        Added::Counted => 0,
+        Added::Refused(refusal) => replies::refusal_number(refusal),
+    }
 }

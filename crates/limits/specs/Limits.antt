@@ -32,3 +32,7 @@ mostPrinted = 2230434
 -- The rows of the judge's ledger: its head, one for each handler, and one for each commit.
 abbrev pub ledgerRows : ℕ
 ledgerRows = 81
+
+-- The counts of a handler in a duty sheet.
+abbrev pub sheetColumns : ℕ
+sheetColumns = 5

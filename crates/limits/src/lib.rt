@@ -53,6 +53,15 @@ pub const LEDGER_WORDS: usize = LEDGER_ROWS * LEDGER_ROW;
 // The words of a ledger behind m and n.
 pub const LEDGER_BEHIND: usize = LEDGER_WORDS - FRONT;
 
+// The counts of a handler in a duty sheet.
+pub const SHEET_COLUMNS: usize = 5;
+
+// The words of a duty sheet: a row of counts for each handler that there can be.
+pub const SHEET_WORDS: usize = HANDLER_TABLE * SHEET_COLUMNS;
+
+// A count above which a duty sheet takes no file: no file has so many lines that a count up to here could wrap.
+pub const SHEET_FULL: u32 = 4_294_000_000u32;
+
 // Whether m is 1 to 32 and n is 1 to 16.
 pub fn in_range(m: u32, n: u32) -> bool
     ensures { λ r. ⌜ RangePromise m n r ⌝ }

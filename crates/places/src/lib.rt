@@ -3,6 +3,7 @@
 // Internal: called by our crates alone, which show what each function requires.
 mod body;
 mod ledger;
+mod sheet;
 
 pub use body::CELLS;
 pub use body::HANDLER_NUMBERS;
@@ -25,3 +26,9 @@ pub use ledger::handler_row;
 pub use ledger::row_at;
 pub use ledger::source_at;
 pub use ledger::written_at;
+pub use sheet::BEGUN;
+pub use sheet::COMMITTED;
+pub use sheet::OVERTAKEN;
+pub use sheet::SPENT;
+pub use sheet::TORN;
+pub use sheet::sheet_row;

@@ -1,6 +1,6 @@
 // The run of a schedule file, one order place after another, whoever answers its steps: the register or the judge.
-// Internal: called by `prints` alone, which admits a file before its first place. Nothing here has a `requires`, and each promise fixes
-// the reply and every word of the player's.
+// Internal: called by `prints` and `sheets` alone, which admit a file before its first place. Nothing here has a `requires`, and each
+// promise fixes the reply and every word of the player's.
 ghost use mathlib.Core.Path.{_≡_};
 ghost use Rattle.replies.specs.Meaning.{replyIs, openingIs};
 ghost use Rattle.replies.specs.Ends.{endIs};

@@ -1,7 +1,7 @@
 -- THE DUTY SHEET: for each of 16 handlers a row of counts, kept in words that the caller lends. What the lines of a run add to it, when
 -- a file is refused, and what adding a file comes to, for all words and all files.
 use Prim.Native.Nat.{ℕ, _+_, _*_}
-use mathlib.Core.Bool.{Bool, false, _&&_}
+use mathlib.Core.Bool.{Bool, _&&_}
 use mathlib.Core.List.{List, [], _∷_, _++_}
 use mathlib.Core.Option.{Option, none, some}
 use lib.ListN.{length, getD, drop}

@@ -1,5 +1,5 @@
 //! The register in plain Rust with no dependencies, written from the rules of docs/RULES.md alone, never from the proved code:
-//! its words and steps, the schedule file and its run, and the judge, which works from the history. The proved programs are
+//! its words and steps, the schedule file and its run, the duty sheet, and the judge, which works from the history. The proved programs are
 //! compared with them, word for word and line for line, on directed and on random schedules.
 pub mod counts;
 pub mod course;
@@ -18,4 +18,5 @@ pub mod random;
 pub mod register;
 pub mod runner;
 pub mod schedule;
+pub mod sheet;
 pub mod steps;

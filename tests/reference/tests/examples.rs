@@ -1,6 +1,6 @@
-//! The directed schedules of `examples/`: the bytes are those of the commented text, and runner and judge print what is expected.
+//! The directed schedules of `examples/`: the bytes are those of the commented text, and runner, judge and sheet print what is expected.
 //! The programs in C there have an expected output too; the gate compiles and runs them.
-use reference::{hexadecimal, judge, runner};
+use reference::{hexadecimal, judge, runner, sheet};
 use std::collections::BTreeSet;
 use std::ffi::OsStr;
 use std::fs;
@@ -59,4 +59,12 @@ fn the_judge_has_a_file_of_its_own_exactly_where_it_stops() {
         assert_eq!(judge::printed(&bytes(&name)), expected, "{name}");
         assert_eq!(judged.contains(&name), expected.ends_with(" refused 33\n"), "{name}");
     }
+}
+
+#[test]
+fn the_duty_sheet_of_three_files() {
+    let mut words = [0; sheet::WORDS];
+    let mut added = |name: &str| format!("examples/{name}.bin {}\n", sheet::said(sheet::add(&mut words, &bytes(name))));
+    let lines = ["listing", "k10-blind-write", "refused-30-gap"].map(&mut added).concat();
+    assert_eq!(lines + &sheet::printed(&words), text("three-files", "sheet"));
 }

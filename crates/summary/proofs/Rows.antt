@@ -1,0 +1,39 @@
+-- The parts of a line put one after another are the line; and lines put one after another: none is put anywhere, and the next behind
+-- those before it.
+use Prim.Native.Nat.{ℕ, suc, _+_}
+use mathlib.Core.Path.{_≡_}
+use mathlib.Core.List.{List}
+use native.Mathlib.Omega.{arith}
+use Rattle.layout.specs.Rows.{rows}
+use Rattle.text.specs.Lies.{Puts}
+use Rattle.text.proofs.Puts.{puts-none, puts-both}
+use Rattle.lines.specs.Texts.{newline}
+use Rattle.counts.specs.Counting.{column, begun, committed, torn, overtaken, spent}
+use Rattle.summary.specs.Texts.{named, rowText}
+
+-- A handler's number, each of its counts, and the end of the line.
+pub row-puts : (handler : ℕ) (count : ℕ → ℕ) {at a b c d e f end : ℕ} {x₀ x₁ x₂ x₃ x₄ x₅ x₆ x₇ : List ℕ}
+    → Puts (named "handler " handler) at a x₀ x₁
+    → Puts (named " begun " (count (column begun))) a b x₁ x₂
+    → Puts (named " committed " (count (column committed))) b c x₂ x₃
+    → Puts (named " abort1 " (count (column torn))) c d x₃ x₄
+    → Puts (named " abort2 " (count (column overtaken))) d e x₄ x₅
+    → Puts (named " abort3 " (count (column spent))) e f x₅ x₆
+    → Puts newline f end x₆ x₇
+    → Puts (rowText handler count) at end x₀ x₇
+unfolding rowText
+row-puts handler count number first second third fourth fifth last =
+    puts-both (puts-both (puts-both (puts-both (puts-both (puts-both number first) second) third) fourth) fifth) last
+
+-- No line is put anywhere,
+pub rows-none : (each : ℕ → List ℕ) {at : ℕ} {buffer : List ℕ} → Puts (rows 0 each) at at buffer buffer
+unfolding rows
+rows-none each = puts-none
+
+-- and one more behind those before it.
+pub rows-more : (each : ℕ → List ℕ) (k : ℕ) {at mid end : ℕ} {before between after : List ℕ}
+    → Puts (rows k each) at mid before between → Puts (each k) mid end between after → Puts (rows (k + 1) each) at end before after
+unfolding rows
+rows-more each k so-far next =
+    let one-more : k + 1 ≡ suc k = omega arith in
+    rw one-more (puts-both so-far next)
