@@ -87,6 +87,7 @@ mod tests {
         let all = [
             "abort 1",
             "abort 2",
+            "abort 5",
             "begin",
             "commit",
             "own write read",

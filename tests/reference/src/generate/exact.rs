@@ -1,12 +1,12 @@
 //! Random schedules that have exactly so many commits, or exactly so many bytes. The judge notes 64 commits at most, and a file
 //! has 65,535 bytes at most: what stands at these limits should not be left to chance.
 use super::parts::Parts;
-use super::transactions::{access, any_write, interleaved, Manner};
+use super::transactions::{access, any_write, ending, interleaved, Manner};
 use crate::random::Random;
-use crate::steps::{self, read, Step, BEGIN, TRY};
+use crate::steps::{self, read, Step, BEGIN, GIVE_UP, TRY};
 
 /// A schedule with exactly so many commits (at least 2), many of them of transactions that read and wrote nothing. Whole
-/// transactions come one after another. Before them handler 0 reads cell 0, which is written, and handler 1 the last cell, which
+/// transactions come one after another, some of which give up and begin anew. Before them handler 0 reads cell 0, which is written, and handler 1 the last cell, which
 /// is not; after them handler 0 tries and aborts, and handler 1 commits.
 pub fn with_commits(random: &mut Random, commits: u64) -> Parts {
     let cells = random.within(2, 6) as u8;
@@ -30,7 +30,10 @@ pub fn with_commits(random: &mut Random, commits: u64) -> Parts {
                 steps.push(access(random, cell, 2));
             }
         }
-        steps.push(TRY);
+        steps.push(ending(random));
+        if steps.ends_with(&[GIVE_UP]) {
+            steps.extend([BEGIN, TRY]);
+        }
         whole(random, &steps);
     }
     scripts[0].extend([TRY, BEGIN, read(0)]);

@@ -1,9 +1,9 @@
 //! Random schedules of several shapes: transactions that meet, long pasts, steps in no order that makes sense, and the smallest and
 //! largest registers. All of them are sound.
 use super::parts::Parts;
-use super::transactions::{access, any_write, interleaved, odd_order_byte, Manner};
+use super::transactions::{access, any_write, ending, interleaved, odd_order_byte, Manner};
 use crate::random::Random;
-use crate::steps::{read, Step, BEGIN, TRY};
+use crate::steps::{read, Step, BEGIN, GIVE_UP, TRY};
 
 /// Few cells and some handlers, whose transactions meet.
 pub(super) fn contended(random: &mut Random) -> Parts {
@@ -74,7 +74,7 @@ pub(super) fn long_pasts(random: &mut Random) -> Parts {
 fn careless_step(random: &mut Random) -> Step {
     match random.below(4) {
         0 => BEGIN,
-        1 => random.one_of(&[BEGIN, TRY]),
+        1 => random.one_of(&[BEGIN, TRY, TRY, GIVE_UP]),
         _ => {
             let cell = random.below(32) as u8;
             access(random, cell, 2)
@@ -103,7 +103,7 @@ pub(super) fn edge(random: &mut Random) -> Parts {
     if random.once_in(2) {
         let last = cells - 1;
         let written = any_write(random, last);
-        let whole = [BEGIN, read(last), written, read(last), TRY];
+        let whole = [BEGIN, read(last), written, read(last), ending(random)];
         scripts[handlers - 1] = whole[..random.place(6)].to_vec();
     }
     let order = match random.below(4) {
