@@ -25,11 +25,11 @@ pub(super) fn access(random: &mut Random, cell: u8, once_in: u64) -> Step {
     }
 }
 
-/// What ends a transaction: mostly a try.
-pub(super) fn ending(random: &mut Random) -> Step {
-    match random.once_in(8) {
-        true => GIVE_UP,
-        false => TRY,
+/// What ends a transaction: once in so many times a give up, else a try. Where there is to be none, nothing is drawn.
+pub(super) fn ending(random: &mut Random, give_up_in: Option<u64>) -> Step {
+    match give_up_in {
+        Some(times) if random.once_in(times) => GIVE_UP,
+        _ => TRY,
     }
 }
 
@@ -44,6 +44,8 @@ pub(super) struct Manner {
     pub(super) again_in: u64,
     /// Once in so many steps there is one that should be refused, or the begin or the end is missing.
     pub(super) odd_in: u64,
+    /// Once in so many transactions there is one that gives up.
+    pub(super) give_up_in: Option<u64>,
 }
 
 impl Manner {
@@ -65,7 +67,7 @@ impl Manner {
             script.push(access(random, cell, self.write_in));
         }
         if !random.once_in(self.odd_in) {
-            script.push(ending(random));
+            script.push(ending(random, self.give_up_in));
         }
     }
 
