@@ -185,9 +185,10 @@ fn k13_sizes() {
 #[test]
 fn k14_give_up() {
     let mut register = register(2);
-    commits(&mut register, 0, &[(0, 3)]);
+    commits(&mut register, 0, &[(1, 3)]);
+    commits(&mut register, 1, &[(0, 5)]);
     let before = register.words().to_vec();
-    begins_and_reads(&mut register, 0, 0, 3);
+    begins_and_reads(&mut register, 0, 0, 5);
     assert_eq!(register.write(0, 1, 7), Ok(()));
     assert_eq!(register.take(0, Step::GiveUp), Reply::Aborted(Abort::GaveUp));
     assert_eq!(register.words(), before);

@@ -265,12 +265,12 @@ mod tests {
     #[test]
     fn given_up() {
         use Reply::*;
-        let before = [(0, 0, 0), (0, 65, 3), (0, 1, 0)];
+        let before = [(0, 0, 0), (0, 65, 3), (0, 1, 0), (1, 0, 0), (1, 64, 5), (1, 1, 0)];
         let steps = [&before[..], &[(0, 0, 0), (0, 32, 0), (0, 65, 7), (0, 2, 0), (0, 2, 0), (0, 1, 0)]].concat();
-        let (replies, words) = run(2, 1, &steps);
-        assert_eq!(replies[3..], [Ok, Value(0), Ok, Abort(5), Refused(14), Refused(14)]);
-        // Every word is as it was before the transaction: cells, and the handler's numbers, which an earlier commit has left.
-        assert_eq!(words, run(2, 1, &before).1);
+        let (replies, words) = run(2, 2, &steps);
+        assert_eq!(replies[6..], [Ok, Value(5), Ok, Abort(5), Refused(14), Refused(14)]);
+        // Every word is as it was before: the cells, and the handler's numbers, though the transaction has read a newer version.
+        assert_eq!(words, run(2, 2, &before).1);
     }
 
     #[test]
