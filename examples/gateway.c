@@ -1,6 +1,7 @@
 // A depot with two sites and one register: cell 0 says which mast stands at the north site, cell 1 which at the south site, 0 for
 // none. The desk and two feed handlers share it. The desk brings the northern mast to the south site; while it does, the north feed
-// reports another mast there, so the desk's try is aborted, and the desk begins anew until it commits.
+// reports another mast there, so the desk's try is aborted, and the desk begins anew until it commits. Then the south feed begins to
+// report a mast that drops off the air: it gives up, and nothing of its report is kept.
 #include "zidlemowo.h"
 
 #include <inttypes.h>
@@ -38,7 +39,7 @@ static uint64_t take(struct depot *depot, uint32_t handler, uint32_t code, uint3
     return reply;
 }
 
-// The four steps.
+// The five steps.
 static void begin(struct depot *depot, uint32_t handler) { take(depot, handler, ZIDLEMOWO_BEGIN, 0, ZIDLEMOWO_OK); }
 
 static uint64_t read_site(struct depot *depot, uint32_t handler, uint32_t site) {
@@ -51,6 +52,10 @@ static void write_site(struct depot *depot, uint32_t handler, uint32_t site, uin
 
 static uint64_t try_to_commit(struct depot *depot, uint32_t handler) {
     return take(depot, handler, ZIDLEMOWO_TRY, 0, ZIDLEMOWO_COMMIT);
+}
+
+static uint64_t give_up(struct depot *depot, uint32_t handler) {
+    return take(depot, handler, ZIDLEMOWO_GIVE_UP, 0, ZIDLEMOWO_ABORT);
 }
 
 // Says how a transaction ended, and whether it has to be begun anew. A spent number ends the program: no attempt would ever commit.
@@ -91,6 +96,14 @@ static uint64_t move_south(struct depot *depot, uint32_t meanwhile) {
     return try_to_commit(depot, DESK);
 }
 
+// The south feed begins to report a mast at its site, which drops off the air before the try.
+static void drop_off(struct depot *depot, uint32_t mast) {
+    begin(depot, SOUTH_FEED);
+    write_site(depot, SOUTH_FEED, SOUTH, mast);
+    printf("south feed: mast %" PRIu32 " drops off the air\n", mast);
+    printf("south feed: abort %" PRIu32 "\n", zidlemowo_detail(give_up(depot, SOUTH_FEED)));
+}
+
 // The south feed looks at both sites in one transaction.
 static uint64_t look(struct depot *depot) {
     begin(depot, SOUTH_FEED);
@@ -120,6 +133,7 @@ int main(void) {
     while (again("desk", move_south(&depot, meanwhile))) {
         meanwhile = 0;
     }
+    drop_off(&depot, 4);
     while (again("south feed", look(&depot))) {
     }
     return EXIT_SUCCESS;

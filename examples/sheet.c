@@ -40,7 +40,7 @@ int main(void) {
     add(sheet, "the listing", listing, sizeof listing);
     add(sheet, "K10", blind_write, sizeof blind_write);
     add(sheet, "K10 without its last byte", blind_write, sizeof blind_write - 1);
-    printf("handler %10s %10s %10s %10s %10s\n", "begun", "committed", "abort 1", "abort 2", "abort 3");
+    printf("handler %10s %10s %10s %10s %10s %10s\n", "begun", "committed", "abort 1", "abort 2", "abort 3", "abort 5");
     for (uint32_t handler = 0; handler < ZIDLEMOWO_MOST_HANDLERS; handler++) {
         const uint32_t *row = sheet + ZIDLEMOWO_SHEET_COLUMNS * handler;
         if (row[ZIDLEMOWO_SHEET_BEGUN] > 0) {

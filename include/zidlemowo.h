@@ -1,8 +1,8 @@
 // The proved register for programs in C11 and C++17: three functions on words that the caller lends, two that run a whole schedule
 // file, and one that counts the replies of such runs in a duty sheet.
 //
-// A register has m cells (1 to 32) and n handlers (1 to 16). A handler runs one transaction at a time, in four steps: begin, read a
-// cell, write a cell, try to commit. Every reply, and every word left behind, is proved to be what docs/PROMISES.md promises, for
+// A register has m cells (1 to 32) and n handlers (1 to 16). A handler runs one transaction at a time, in five steps: begin, read a
+// cell, write a cell, try to commit, give up. Every reply, and every word left behind, is proved to be what docs/PROMISES.md promises, for
 // any words, handler, code and value: bad input is refused by number and changes nothing.
 //
 // Link with target/staticlib/libgateway.a, which `rt staticlib gateway` proves and builds for x86-64 Linux. It needs nothing of the
@@ -10,9 +10,9 @@
 //
 // docs/RULES.md has the rules, docs/REPLIES.md every number that is given; zidlemowo_text says in words what it means, for a log.
 //
-// A transaction that is given up stays open. None of the four steps ends one for certain without a commit: a later try of that
-// handler may commit what was written before it was given up. So decide from reads, before the first write; a try of a transaction
-// that has written nothing changes no cell.
+// A transaction that is open stays open until a step ends it, and a later try of that handler commits what was written in it. So
+// where a handler's work comes to nothing, give up: that ends the transaction for certain, with no cell changed, and the handler may
+// begin anew.
 //
 // The words. They belong to the caller, who may put them anywhere and copy, move, keep or free them between calls. They are lent
 // for the time of a call: nothing is kept, allocated or freed. A register lies in front of them (docs/LAYOUT.md); words beyond it
@@ -28,10 +28,10 @@
 #include <stddef.h> // size_t: how many words or bytes are lent
 #include <stdint.h> // uint32_t: a word; uint64_t: the reply to a step; uint8_t: a byte of a file or of a text
 
-// The version of this header and its library: of its functions, its numbers and the layout of a register's words.
-#define ZIDLEMOWO_VERSION "0.1.0"
+// The version of this header and its library: of its functions, its numbers, and the layout of a register's words and a sheet's.
+#define ZIDLEMOWO_VERSION "0.2.0"
 #define ZIDLEMOWO_VERSION_MAJOR 0 // the parts, for the preprocessor
-#define ZIDLEMOWO_VERSION_MINOR 1
+#define ZIDLEMOWO_VERSION_MINOR 2
 #define ZIDLEMOWO_VERSION_PATCH 0
 
 #ifdef __cplusplus
@@ -46,8 +46,8 @@ enum {
     ZIDLEMOWO_MOST_NUMBER = 65535,    // the largest number of a cell, a handler or a transaction
     ZIDLEMOWO_MOST_FILE = 65535,      // the most bytes of a schedule file: a longer one is refused with 30
     ZIDLEMOWO_MOST_PRINTED = 2230434, // no text of a whole run has more bytes, whatever the file
-    ZIDLEMOWO_SHEET_WORDS = 80,       // the words of a duty sheet: a row for each of 16 handlers, however many a file has
-    ZIDLEMOWO_SHEET_COLUMNS = 5,      // the words of a row: handler h's begins at word 5h
+    ZIDLEMOWO_SHEET_WORDS = 96,       // the words of a duty sheet: a row for each of 16 handlers, however many a file has
+    ZIDLEMOWO_SHEET_COLUMNS = 6,      // the words of a row: handler h's begins at word 6h
 };
 
 // The largest count with which a duty sheet still takes a file. It is no int, so it is no constant of an enum.
@@ -60,6 +60,7 @@ enum {
 enum {
     ZIDLEMOWO_BEGIN = 0,     // begin: opens the handler's transaction
     ZIDLEMOWO_TRY = 1,       // try to commit: ends the transaction with a commit or an abort
+    ZIDLEMOWO_GIVE_UP = 2,   // give up: ends the transaction with an abort, whatever it read and wrote
     ZIDLEMOWO_READ = 32,     // 32 to 63 read cell (code - 32): this is cell 0's, zidlemowo_read_code gives any cell's
     ZIDLEMOWO_WRITE = 64,    // 64 to 95 write cell (code - 64): this is cell 0's, zidlemowo_write_code gives any cell's
     ZIDLEMOWO_NO_CODE = 256, // stands for no step, being above 255: what a cell that no code names, 32 or above, gets
@@ -74,11 +75,13 @@ enum {
     ZIDLEMOWO_REFUSED = 4, // refused: nothing is changed; the detail is the refusal
 };
 
-// Reasons of an abort, which are outcomes and no mistakes. After 1 or 2 the transaction may be begun anew.
+// Reasons of an abort, which are outcomes and no mistakes. After 1 or 2 the transaction may be begun anew. 5 is what a give up gives, and
+// nothing else does. No reason is 4.
 enum {
     ZIDLEMOWO_TORN = 1,      // a first read: the cell depends on a later version of a cell already read
     ZIDLEMOWO_OVERTAKEN = 2, // a try: a cell that was read has another number now
     ZIDLEMOWO_SPENT = 3,     // a try, no cell overtaken: a written cell's number stands at 65,535, and so for good
+    ZIDLEMOWO_GAVE_UP = 5,   // a give up: the handler has ended its transaction itself
 };
 
 // The columns of a duty sheet: where each count stands in a handler's row.
@@ -88,6 +91,7 @@ enum {
     ZIDLEMOWO_SHEET_TORN = 2,      // transactions aborted by reason 1
     ZIDLEMOWO_SHEET_OVERTAKEN = 3, // transactions aborted by reason 2
     ZIDLEMOWO_SHEET_SPENT = 4,     // transactions aborted by reason 3
+    ZIDLEMOWO_SHEET_GAVE_UP = 5,   // transactions aborted by reason 5
 };
 
 // Refusals. A step is checked in the order 10, 15, 11, 12, then 13 or 14; an opening in the order 20, 21; a file for a sheet in the
@@ -97,10 +101,10 @@ enum {
     ZIDLEMOWO_NO_HANDLER = 11,       // a step: handler n or above
     ZIDLEMOWO_NO_CELL = 12,          // a step: read or write of cell m or above
     ZIDLEMOWO_ALREADY_OPEN = 13,     // a step: begin while open
-    ZIDLEMOWO_NOT_OPEN = 14,         // a step: read, write or try while idle
+    ZIDLEMOWO_NOT_OPEN = 14,         // a step: read, write, try or give up while idle
     ZIDLEMOWO_UNKNOWN_STEP = 15,     // a step: a code that stands for no step; a file: also a write cut short
     ZIDLEMOWO_OUT_OF_RANGE = 20,     // an opening: m or n out of range
-    ZIDLEMOWO_TOO_SHORT = 21,        // an opening: a buffer shorter than the register; a sheet: one shorter than 80 words
+    ZIDLEMOWO_TOO_SHORT = 21,        // an opening: a buffer shorter than the register; a sheet: one shorter than 96 words
     ZIDLEMOWO_BAD_FILE = 30,         // a schedule file: too long, m or n out of range, or a bad table
     ZIDLEMOWO_USED_UP = 32,          // an order place: the handler's script is used up
     ZIDLEMOWO_TOO_MANY_COMMITS = 33, // the judge: a try that would be the 65th commit
@@ -135,11 +139,11 @@ size_t zidlemowo_judge(const uint8_t *file, size_t file_length, uint8_t *output,
 
 // Adds a schedule file to the duty sheet in front of `length` words. The file is run from a fresh register, and each reply of its run
 // is counted in its handler's row: a begin that is done, a commit, and an abort by its reason. Gives 0, or the refusal, which changes
-// nothing: ZIDLEMOWO_TOO_SHORT for fewer than 80 words, ZIDLEMOWO_BAD_FILE, ZIDLEMOWO_UNKNOWN_STEP, or ZIDLEMOWO_SHEET_FULL where any
+// nothing: ZIDLEMOWO_TOO_SHORT for fewer than 96 words, ZIDLEMOWO_BAD_FILE, ZIDLEMOWO_UNKNOWN_STEP, or ZIDLEMOWO_SHEET_FULL where any
 // count of the 16 handlers is above ZIDLEMOWO_SHEET_MOST already. The reply and every word are proved, for any words and any file.
 //
-// A fresh sheet is 80 words of 0. Any others are a sheet too, with the counts that they hold; so a sheet may be kept and taken up again.
-// Words behind the 80 are never changed. The file is read only, and the two must not overlap; either may be NULL where its length is 0.
+// A fresh sheet is 96 words of 0. Any others are a sheet too, with the counts that they hold; so a sheet may be kept and taken up again.
+// Words behind the 96 are never changed. The file is read only, and the two must not overlap; either may be NULL where its length is 0.
 uint32_t zidlemowo_sheet(uint32_t *counts, size_t length, const uint8_t *file, size_t file_length);
 
 // The kind of a reply to a step: ZIDLEMOWO_OK to ZIDLEMOWO_REFUSED.
@@ -171,6 +175,7 @@ static inline const char *zidlemowo_reason_text(uint32_t reason) {
     case ZIDLEMOWO_TORN: return "this cell depends on a newer version of a cell that was read before";
     case ZIDLEMOWO_OVERTAKEN: return "a cell that was read has been written since";
     case ZIDLEMOWO_SPENT: return "a cell to be written has no version number left";
+    case ZIDLEMOWO_GAVE_UP: return "the handler gave the transaction up";
     default: return zidlemowo_no_text();
     }
 }

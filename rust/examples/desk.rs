@@ -2,7 +2,7 @@
 //! The desk's first attempt is aborted and started over, so that no mast is lost and none stands in two slots.
 use std::error::Error;
 use std::fmt;
-use zidlemowo::{NotCommitted, Register, Shared, Step, Stopped, Transaction};
+use zidlemowo::{NotCommitted, Register, Shared, Stopped, Transaction};
 
 const DESK: u32 = 0;
 const FEED: u32 = 1;
@@ -45,7 +45,6 @@ fn empty_slot(transaction: &mut Transaction<'_>) -> Result<u32, NotMoved> {
 /// The desk moves the mast of a slot to the first empty one; `meanwhile` is what happens elsewhere before it writes.
 fn move_mast(shared: &Shared<'_>, from: u32, mut meanwhile: impl FnMut()) -> Result<(), NotCommitted<NotMoved>> {
     shared.transact(DESK, 5, |transaction| {
-        // All that may make the desk give up is read before the first write.
         let mast = transaction.read(from)?;
         if mast == 0 {
             return Err(NotMoved::NoMast(from));
@@ -76,11 +75,9 @@ fn main() -> Result<(), Box<dyn Error>> {
     })?;
     println!("desk: commit");
 
-    // The desk asks for a mast that has gone, and gives up. Its transaction is still open; it has written nothing, so a try ends it
-    // and changes no slot, be it a commit or an abort.
+    // The desk asks for a mast that has gone, and gives up: nothing of its transaction is kept.
     if let Err(not_committed) = move_mast(&shared, 0, || ()) {
         println!("desk: {not_committed}");
-        println!("desk: its try: {}", shared.take(DESK, Step::Try));
     }
 
     for slot in 0..SLOTS {

@@ -30,8 +30,8 @@
 //!
 //! # A transaction that is given up
 //!
-//! **It stays open, with what it wrote, and a later [`Register::try_commit`] commits the abandoned write.** None of the four steps
-//! ends a transaction for certain without a commit; so where a closure gives up, with an error or a panic, no further step is taken:
+//! Where a closure gives up, with an error or a panic, its transaction is ended by [`Step::GiveUp`]: nothing of it is kept, no cell is
+//! changed, and the handler may begin anew.
 //!
 //! ```
 //! use zidlemowo::{NotCommitted, Refusal, Register};
@@ -39,25 +39,16 @@
 //! let mut register = Register::new(2, 1)?;
 //! let given_up = register.transact(0, 3, |transaction| -> Result<(), &str> {
 //!     transaction.write(0, 17).map_err(|_| "stopped")?;
-//!     Err("the customer has left")
+//!     Err("the mast is off the air")
 //! });
-//! assert_eq!(given_up, Err(NotCommitted::GaveUp("the customer has left")));
-//! assert_eq!(register.begin(0), Err(Refusal::AlreadyOpen));
-//!
-//! // Whoever now ends it commits mast 17.
-//! assert_eq!(register.try_commit(0), Ok(Ok(())));
-//! assert_eq!(register.transact(0, 1, |transaction| transaction.read(0)), Ok(17));
+//! assert_eq!(given_up, Err(NotCommitted::GaveUp("the mast is off the air")));
+//! assert_eq!(register.try_commit(0), Err(Refusal::NotOpen));
+//! assert_eq!(register.transact(0, 1, |transaction| transaction.read(0)), Ok(0));
 //! # Ok::<(), Refusal>(())
 //! ```
 //!
-//! So let a closure decide from what it reads, and write once nothing can make it give up. Given up before its first write, a
-//! transaction is ended by `try_commit` with no change to any cell. If it has written, there are three ways on:
-//!
-//! - finish it, with [`Register::carry_on`], which may write over what was written;
-//! - have it aborted: let it read a cell that it has not written, let another handler commit that cell anew, and try; the try is
-//!   [`Abort::Overtaken`] for certain, and nothing of it is kept. It costs that cell one number, and a read that is aborted has ended
-//!   it already;
-//! - leave it open. It stands in the way of no other handler.
+//! A transaction that was begun step by step stays open until a step ends it, and a later [`Register::try_commit`] commits what it
+//! wrote: whoever abandons one calls [`Register::give_up`].
 //!
 //! A whole schedule file is run at once by [`run`] and judged by [`judge`], which give what the programs print of it. A [`Sheet`] counts
 //! over many files what each handler began, committed and had aborted.

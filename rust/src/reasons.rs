@@ -17,15 +17,17 @@ pub enum Abort {
     Overtaken = 2,
     /// A try, no cell overtaken: a written cell's number stands at 65,535. Every further attempt to write that cell ends so too.
     Spent = 3,
+    /// A give up: the handler has ended its transaction itself.
+    GaveUp = 5,
 }
 
 impl Abort {
     /// Every reason of an abort.
     ///
     /// ```
-    /// assert_eq!(zidlemowo::Abort::ALL.len(), 3);
+    /// assert_eq!(zidlemowo::Abort::ALL.len(), 4);
     /// ```
-    pub const ALL: [Abort; 3] = [Abort::Torn, Abort::Overtaken, Abort::Spent];
+    pub const ALL: [Abort; 4] = [Abort::Torn, Abort::Overtaken, Abort::Spent, Abort::GaveUp];
 
     /// The reason's number.
     ///
@@ -36,7 +38,7 @@ impl Abort {
         self as u32
     }
 
-    /// The reason with that number.
+    /// The reason with that number. None has 4.
     ///
     /// ```
     /// use zidlemowo::Abort;
@@ -58,6 +60,7 @@ impl Abort {
             Abort::Torn => "this cell depends on a newer version of a cell that was read before",
             Abort::Overtaken => "a cell that was read has been written since",
             Abort::Spent => "a cell to be written has no version number left",
+            Abort::GaveUp => "the handler gave the transaction up",
         }
     }
 }
@@ -88,13 +91,13 @@ pub enum Refusal {
     NoCell = 12,
     /// Begin while open.
     AlreadyOpen = 13,
-    /// Read, write or try while idle.
+    /// Read, write, try or give up while idle.
     NotOpen = 14,
     /// A code that stands for no step.
     UnknownStep = 15,
     /// Opening with m or n out of range.
     OutOfRange = 20,
-    /// Opening with a buffer shorter than the register; a duty sheet with fewer than 80 words.
+    /// Opening with a buffer shorter than the register; a duty sheet with fewer than 96 words.
     TooShort = 21,
     /// A schedule file that is too long, has m or n out of range, or a bad table.
     BadFile = 30,

@@ -182,8 +182,7 @@ impl<'a> Register<'a> {
         self.take(handler, Step::Write(cell, value)).outcome().map(|_| ())
     }
 
-    /// Tries to commit the handler's transaction, which is ended either way. It is the transaction that is open, whoever began it: one
-    /// that a closure gave up is committed too, with what it wrote.
+    /// Tries to commit the handler's transaction, which is ended either way.
     ///
     /// ```
     /// use zidlemowo::{Abort, Refusal, Register};
@@ -201,6 +200,23 @@ impl<'a> Register<'a> {
         self.take(handler, Step::Try).outcome().map(|tried| tried.map(|_| ()))
     }
 
+    /// Gives the handler's transaction up: it is ended as [`Abort::GaveUp`], and nothing of it is kept.
+    ///
+    /// ```
+    /// use zidlemowo::{Refusal, Register};
+    ///
+    /// let mut register = Register::new(2, 1)?;
+    /// register.begin(0)?;
+    /// register.write(0, 1, 7)?;
+    /// assert_eq!(register.give_up(0), Ok(()));
+    /// assert_eq!(register.give_up(0), Err(Refusal::NotOpen));
+    /// assert_eq!(register.transact(0, 1, |transaction| transaction.read(1)), Ok(0));
+    /// # Ok::<(), Refusal>(())
+    /// ```
+    pub fn give_up(&mut self, handler: u32) -> Result<(), Refusal> {
+        self.take(handler, Step::GiveUp).outcome().map(|_| ())
+    }
+
     /// Runs a closure as one transaction of the handler: begin, the closure's reads and writes, and a try to commit. After an abort
     /// it starts over, the closure with it, until it has been begun `attempts` times (once, for 0); then the last abort is given.
     /// [`Abort::Spent`] is given at once, since starting over would not help.
@@ -208,12 +224,7 @@ impl<'a> Register<'a> {
     /// The register is the closure's for the whole of it, so no other handler comes between, and on a register that was opened
     /// nothing but [`Abort::Spent`] is to be expected. Where handlers are to take turns, use [`Shared`](crate::Shared).
     ///
-    /// **Where the closure gives up** with an error, or panics, no further step is taken. None of the four steps ends a
-    /// transaction for certain without a commit; so it stays open, no cell is changed, and the next begin of this handler is
-    /// refused with 13. **A later [`try_commit`](Register::try_commit) commits what was written before it was given up**, and so does
-    /// [`carry_on`](Register::carry_on), which takes it up again. If nothing was written in it, `try_commit` ends it without a change
-    /// to any cell: so decide from reads, before the first write. How to be rid of one that has written stands on the
-    /// [crate's page](crate#a-transaction-that-is-given-up).
+    /// Where the closure gives up with an error, or panics, its transaction is given up: nothing of it is kept, and the handler is idle.
     ///
     /// ```
     /// use zidlemowo::{NotCommitted, Refusal, Register, Stopped};
@@ -228,7 +239,7 @@ impl<'a> Register<'a> {
     ///
     /// let no_cell = register.transact(0, 3, |transaction| transaction.read(2));
     /// assert_eq!(no_cell, Err(NotCommitted::GaveUp(Stopped::Refused(Refusal::NoCell))));
-    /// assert_eq!(register.begin(0), Err(Refusal::AlreadyOpen));
+    /// assert_eq!(register.begin(0), Ok(()));
     /// # Ok::<(), Refusal>(())
     /// ```
     pub fn transact<T, E>(
@@ -238,44 +249,5 @@ impl<'a> Register<'a> {
         closure: impl FnMut(&mut Transaction<'_>) -> Result<T, E>,
     ) -> Result<T, NotCommitted<E>> {
         transact::transact(&mut |handler, step| self.take(handler, step), handler, attempts, closure)
-    }
-
-    /// Takes up the handler's open transaction with a closure and goes on as [`transact`](Register::transact) does: a try to
-    /// commit, and after an abort everything anew. What was read and written before belongs to the transaction still. Where none is
-    /// open, the closure's steps and the try are refused with 14.
-    ///
-    /// ```
-    /// use zidlemowo::{NotCommitted, Refusal, Register, Stopped};
-    ///
-    /// #[derive(Debug, PartialEq)]
-    /// enum Desk {
-    ///     Stopped(Stopped),
-    ///     Closed,
-    /// }
-    /// impl From<Stopped> for Desk {
-    ///     fn from(stopped: Stopped) -> Desk {
-    ///         Desk::Stopped(stopped)
-    ///     }
-    /// }
-    ///
-    /// let mut register = Register::new(2, 1)?;
-    /// let given_up = register.transact(0, 1, |transaction| -> Result<(), Desk> {
-    ///     transaction.write(0, 17)?;
-    ///     Err(Desk::Closed)
-    /// });
-    /// assert_eq!(given_up, Err(NotCommitted::GaveUp(Desk::Closed)));
-    ///
-    /// // Later the desk opens again, and finishes what it had begun.
-    /// assert_eq!(register.carry_on(0, 1, |transaction| transaction.read(0)), Ok(17));
-    /// assert_eq!(register.begin(0), Ok(()));
-    /// # Ok::<(), Refusal>(())
-    /// ```
-    pub fn carry_on<T, E>(
-        &mut self,
-        handler: u32,
-        attempts: u32,
-        closure: impl FnMut(&mut Transaction<'_>) -> Result<T, E>,
-    ) -> Result<T, NotCommitted<E>> {
-        transact::carry_on(&mut |handler, step| self.take(handler, step), handler, attempts, closure)
     }
 }

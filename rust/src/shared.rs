@@ -88,7 +88,7 @@ impl<'a> Shared<'a> {
 
     /// Runs a closure as one transaction, as [`Register::transact`] does; but other handlers may step while it runs, so that it
     /// may be aborted for any reason. Each handler is to be used by one closure at a time; a second one is refused with 13. Where the
-    /// closure gives up, its transaction stays open, and a later try commits what it wrote.
+    /// closure gives up or panics, its transaction is given up.
     ///
     /// ```
     /// # use zidlemowo::{Register, Shared};
@@ -117,23 +117,5 @@ impl<'a> Shared<'a> {
         closure: impl FnMut(&mut Transaction<'_>) -> Result<T, E>,
     ) -> Result<T, NotCommitted<E>> {
         transact::transact(&mut |handler, step| self.take(handler, step), handler, attempts, closure)
-    }
-
-    /// Takes up the handler's open transaction with a closure, as [`Register::carry_on`] does.
-    ///
-    /// ```
-    /// # use zidlemowo::{Register, Shared};
-    /// let shared = Shared::new(Register::new(2, 1)?);
-    /// shared.lock().begin(0)?;
-    /// assert_eq!(shared.carry_on(0, 1, |transaction| transaction.write(0, 5)), Ok(()));
-    /// # Ok::<(), zidlemowo::Refusal>(())
-    /// ```
-    pub fn carry_on<T, E>(
-        &self,
-        handler: u32,
-        attempts: u32,
-        closure: impl FnMut(&mut Transaction<'_>) -> Result<T, E>,
-    ) -> Result<T, NotCommitted<E>> {
-        transact::carry_on(&mut |handler, step| self.take(handler, step), handler, attempts, closure)
     }
 }

@@ -9,7 +9,7 @@ use std::fmt;
 /// ```
 /// use zidlemowo::{Abort, Counts};
 ///
-/// let counts = Counts { begun: 9, committed: 5, torn: 2, overtaken: 1, spent: 0 };
+/// let counts = Counts { begun: 9, committed: 4, torn: 2, overtaken: 1, spent: 0, gave_up: 1 };
 /// assert_eq!(counts.aborted(Abort::Torn), 2);
 /// assert_eq!(Counts::default().begun, 0);
 /// ```
@@ -25,6 +25,8 @@ pub struct Counts {
     pub overtaken: u32,
     /// Transactions aborted by [`Abort::Spent`]. No schedule file is long enough for one.
     pub spent: u32,
+    /// Transactions that their handler gave up, [`Abort::GaveUp`].
+    pub gave_up: u32,
 }
 
 impl Counts {
@@ -40,12 +42,13 @@ impl Counts {
             Abort::Torn => self.torn,
             Abort::Overtaken => self.overtaken,
             Abort::Spent => self.spent,
+            Abort::GaveUp => self.gave_up,
         }
     }
 
     /// The counts of a row of words.
     fn of_row(row: &[u32]) -> Counts {
-        Counts { begun: row[0], committed: row[1], torn: row[2], overtaken: row[3], spent: row[4] }
+        Counts { begun: row[0], committed: row[1], torn: row[2], overtaken: row[3], spent: row[4], gave_up: row[5] }
     }
 }
 
@@ -79,17 +82,17 @@ impl Sheet {
     /// ```
     pub const HANDLERS: u32 = 16;
 
-    /// The counts of a handler, and so the words of its row: begun, committed, torn, overtaken, spent.
+    /// The counts of a handler, and so the words of its row: begun, committed, torn, overtaken, spent, gave up.
     ///
     /// ```
-    /// assert_eq!(zidlemowo::Sheet::COLUMNS, 5);
+    /// assert_eq!(zidlemowo::Sheet::COLUMNS, 6);
     /// ```
-    pub const COLUMNS: usize = 5;
+    pub const COLUMNS: usize = 6;
 
     /// The words of a sheet: a row for each handler.
     ///
     /// ```
-    /// assert_eq!(zidlemowo::Sheet::WORDS, 80);
+    /// assert_eq!(zidlemowo::Sheet::WORDS, 96);
     /// ```
     pub const WORDS: usize = Sheet::HANDLERS as usize * Sheet::COLUMNS;
 
@@ -111,13 +114,13 @@ impl Sheet {
         Sheet { words: [0; Sheet::WORDS] }
     }
 
-    /// A sheet that was kept as its words. Any 80 words are one.
+    /// A sheet that was kept as its words. Any 96 words are one.
     ///
     /// ```
     /// use zidlemowo::Sheet;
     ///
     /// let mut words = [0; Sheet::WORDS];
-    /// words[5] = 7;
+    /// words[6] = 7;
     /// let sheet = Sheet::from_words(words);
     /// assert_eq!(sheet.counts(1).map(|counts| counts.begun), Some(7));
     /// assert_eq!(sheet.words(), &words);
@@ -126,7 +129,7 @@ impl Sheet {
         Sheet { words }
     }
 
-    /// The sheet's words, to be kept: handler h's row begins at word 5h.
+    /// The sheet's words, to be kept: handler h's row begins at word 6h.
     ///
     /// ```
     /// use zidlemowo::Sheet;
@@ -159,7 +162,7 @@ impl Sheet {
     /// use zidlemowo::{Counts, Sheet};
     ///
     /// let sheet = Sheet::from_words(std::array::from_fn(|place| place as u32));
-    /// assert_eq!(sheet.counts(2), Some(Counts { begun: 10, committed: 11, torn: 12, overtaken: 13, spent: 14 }));
+    /// assert_eq!(sheet.counts(2), Some(Counts { begun: 12, committed: 13, torn: 14, overtaken: 15, spent: 16, gave_up: 17 }));
     /// assert_eq!(sheet.counts(16), None);
     /// ```
     pub fn counts(&self, handler: u32) -> Option<Counts> {
@@ -177,7 +180,7 @@ impl Default for Sheet {
 ///
 /// ```
 /// let table = zidlemowo::Sheet::new().to_string();
-/// assert!(table.starts_with("handler      begun  committed    abort 1    abort 2    abort 3\n      0          0 "));
+/// assert!(table.starts_with("handler      begun  committed    abort 1    abort 2    abort 3    abort 5\n      0 "));
 /// assert_eq!(table.lines().count(), 17);
 /// ```
 impl fmt::Display for Sheet {

@@ -1,4 +1,4 @@
-//! The four steps and their codes.
+//! The five steps and their codes.
 
 /// A step of a handler.
 ///
@@ -7,6 +7,7 @@
 ///
 /// assert_eq!(Step::Begin.code(), 0);
 /// assert_eq!(Step::Try.code(), 1);
+/// assert_eq!(Step::GiveUp.code(), 2);
 /// assert_eq!(Step::Read(31).code(), 63);
 /// assert_eq!(Step::Write(0, 5).code(), 64);
 /// ```
@@ -20,6 +21,8 @@ pub enum Step {
     Write(u32, u32),
     /// Try to commit.
     Try,
+    /// Give up: end the transaction, of which nothing is kept.
+    GiveUp,
 }
 
 /// How many cells have codes.
@@ -41,6 +44,7 @@ impl Step {
         match self {
             Step::Begin => 0,
             Step::Try => 1,
+            Step::GiveUp => 2,
             Step::Read(cell) if cell < CODED => 32 + cell,
             Step::Write(cell, _) if cell < CODED => 64 + cell,
             Step::Read(_) | Step::Write(..) => Step::NO_CODE,
@@ -55,7 +59,7 @@ impl Step {
     pub fn value(self) -> u32 {
         match self {
             Step::Write(_, value) => value,
-            Step::Begin | Step::Read(_) | Step::Try => 0,
+            Step::Begin | Step::Read(_) | Step::Try | Step::GiveUp => 0,
         }
     }
 }
@@ -69,8 +73,8 @@ mod tests {
     #[test]
     fn the_codes_are_those_that_the_register_knows() {
         let cells = (0..CODED).flat_map(|cell| [Step::Read(cell), Step::Write(cell, 7)]);
-        let codes: BTreeSet<u32> = cells.chain([Step::Begin, Step::Try]).map(Step::code).collect();
-        assert_eq!(codes.len(), 66);
+        let codes: BTreeSet<u32> = cells.chain([Step::Begin, Step::Try, Step::GiveUp]).map(Step::code).collect();
+        assert_eq!(codes.len(), 67);
         for code in (0..300).chain([u32::MAX]) {
             let reply = Register::new(32, 1).expect("in range").step(0, code, 0);
             assert_eq!(reply != Reply::Refused(Refusal::UnknownStep), codes.contains(&code), "code {code}");

@@ -45,8 +45,7 @@ pub enum NotCommitted<E> {
     Aborted(Abort),
     /// The begin or the try was refused: the handler's phase was not the one asked for, or there is no such handler or register.
     Refused(Refusal),
-    /// The closure gave up with this error. The transaction is open still, and no cell is changed; a later try would commit what it
-    /// wrote. The [crate's page](crate#a-transaction-that-is-given-up) says what to do.
+    /// The closure gave up with this error. The handler is idle and no cell is changed.
     GaveUp(E),
 }
 
@@ -55,7 +54,7 @@ impl<E: fmt::Display> fmt::Display for NotCommitted<E> {
         match self {
             NotCommitted::Aborted(abort) => abort.fmt(to),
             NotCommitted::Refused(refusal) => refusal.fmt(to),
-            NotCommitted::GaveUp(error) => write!(to, "given up, the transaction still open: {error}"),
+            NotCommitted::GaveUp(error) => write!(to, "given up: {error}"),
         }
     }
 }
@@ -65,7 +64,8 @@ impl<E: fmt::Debug + fmt::Display> Error for NotCommitted<E> {}
 /// Takes the step of a handler.
 type Take<'t> = dyn FnMut(u32, Step) -> Reply + 't;
 
-/// An open transaction, as the closure has it. After an abort it takes no further step.
+/// An open transaction, as the closure has it. After an abort it takes no further step. Where the closure ends with an error or a panic,
+/// it is given up.
 ///
 /// ```
 /// use zidlemowo::{Register, Stopped, Transaction};
@@ -82,12 +82,20 @@ type Take<'t> = dyn FnMut(u32, Step) -> Reply + 't;
 pub struct Transaction<'t> {
     take: &'t mut Take<'t>,
     handler: u32,
-    ended: Option<Abort>,
+    phase: Phase,
+}
+
+/// How far a transaction is.
+#[derive(Clone, Copy, Debug, PartialEq, Eq)]
+enum Phase {
+    Open,
+    Aborted(Abort),
+    Tried,
 }
 
 impl fmt::Debug for Transaction<'_> {
     fn fmt(&self, to: &mut fmt::Formatter<'_>) -> fmt::Result {
-        to.debug_struct("Transaction").field("handler", &self.handler).field("ended", &self.ended).finish_non_exhaustive()
+        to.debug_struct("Transaction").field("handler", &self.handler).field("phase", &self.phase).finish_non_exhaustive()
     }
 }
 
@@ -116,12 +124,31 @@ impl Transaction<'_> {
     }
 
     fn step(&mut self, step: Step) -> Result<u32, Stopped> {
-        if let Some(abort) = self.ended {
+        if let Phase::Aborted(abort) = self.phase {
             return Err(Stopped::Aborted(abort));
         }
         let outcome = (self.take)(self.handler, step).outcome().map_err(Stopped::Refused)?;
-        self.ended = outcome.err();
-        outcome.map_err(Stopped::Aborted)
+        outcome.map_err(|abort| {
+            self.phase = Phase::Aborted(abort);
+            Stopped::Aborted(abort)
+        })
+    }
+
+    /// Tries to commit.
+    fn attempt(mut self) -> Result<Result<(), Abort>, Refusal> {
+        self.phase = Phase::Tried;
+        (self.take)(self.handler, Step::Try).outcome().map(|tried| tried.map(|_| ()))
+    }
+}
+
+/// Gives up what is still open: a closure has ended with an error, or a panic is on its way through here. Otherwise a later try of the
+/// handler would commit what the closure wrote.
+impl Drop for Transaction<'_> {
+    fn drop(&mut self) {
+        if self.phase == Phase::Open {
+            // Where the step is refused, someone else has ended the transaction already.
+            (self.take)(self.handler, Step::GiveUp);
+        }
     }
 }
 
@@ -130,48 +157,34 @@ pub(crate) fn transact<T, E>(
     take: &mut Take<'_>,
     handler: u32,
     attempts: u32,
-    closure: impl FnMut(&mut Transaction<'_>) -> Result<T, E>,
-) -> Result<T, NotCommitted<E>> {
-    begin(take, handler)?;
-    carry_on(take, handler, attempts, closure)
-}
-
-/// Runs the closure in the open transaction, tries to commit; after an abort everything anew, up to the bound.
-pub(crate) fn carry_on<T, E>(
-    take: &mut Take<'_>,
-    handler: u32,
-    attempts: u32,
     mut closure: impl FnMut(&mut Transaction<'_>) -> Result<T, E>,
 ) -> Result<T, NotCommitted<E>> {
-    let mut made = 1;
+    let mut made = 0;
     loop {
-        match attempt(take, handler, &mut closure)? {
+        made += 1;
+        match once(take, handler, &mut closure)? {
             Ok(value) => return Ok(value),
             // A spent cell stays spent, so starting over would end the same way.
             Err(abort) if abort == Abort::Spent || made >= attempts => return Err(NotCommitted::Aborted(abort)),
-            Err(_) => made += 1,
+            Err(_) => (),
         }
-        begin(take, handler)?;
     }
 }
 
-fn begin<E>(take: &mut Take<'_>, handler: u32) -> Result<(), NotCommitted<E>> {
-    take(handler, Step::Begin).outcome().map(|_| ()).map_err(NotCommitted::Refused)
-}
-
-/// The closure once, and a try to commit if it has neither given up nor been aborted.
-fn attempt<T, E>(
+/// Begins a transaction, runs the closure in it, and tries to commit if the closure has neither given up nor been aborted.
+fn once<T, E>(
     take: &mut Take<'_>,
     handler: u32,
     closure: &mut impl FnMut(&mut Transaction<'_>) -> Result<T, E>,
 ) -> Result<Result<T, Abort>, NotCommitted<E>> {
-    let mut transaction = Transaction { take: &mut *take, handler, ended: None };
+    take(handler, Step::Begin).outcome().map(|_| ()).map_err(NotCommitted::Refused)?;
+    let mut transaction = Transaction { take, handler, phase: Phase::Open };
     let given = closure(&mut transaction);
     // An abort counts whatever the closure made of it: there is nothing left to commit or to give up.
-    if let Some(abort) = transaction.ended {
+    if let Phase::Aborted(abort) = transaction.phase {
         return Ok(Err(abort));
     }
     let value = given.map_err(NotCommitted::GaveUp)?;
-    let tried = take(handler, Step::Try).outcome().map_err(NotCommitted::Refused)?;
-    Ok(tried.map(|_| value))
+    let tried = transaction.attempt().map_err(NotCommitted::Refused)?;
+    Ok(tried.map(|()| value))
 }

@@ -5,9 +5,10 @@ use zidlemowo::{needed, NotCommitted, Refusal, Register, Reply, Step, Stopped};
 const SIZES: [(u32, u32); 6] = [(1, 1), (2, 1), (2, 3), (31, 2), (32, 1), (32, 16)];
 
 /// Steps that a register might be asked for, with every wrong thing among them.
-const STEPS: [Step; 8] = [
+const STEPS: [Step; 9] = [
     Step::Begin,
     Step::Try,
+    Step::GiveUp,
     Step::Read(0),
     Step::Read(31),
     Step::Read(32),
@@ -28,7 +29,7 @@ fn is_no_register(words: &mut [u32], what: &str) {
         for step in STEPS {
             assert_eq!(register.take(handler, step), Reply::Refused(Refusal::NotWellFormed), "{what}: {handler} {step:?}");
         }
-        for code in [2, 255, u32::MAX] {
+        for code in [3, 255, u32::MAX] {
             assert_eq!(register.step(handler, code, 7), Reply::Refused(Refusal::NotWellFormed), "{what}: {handler} code {code}");
         }
     }
@@ -49,10 +50,9 @@ fn no_words_at_all() {
     let mut register = Register::resume(&mut []);
     let refused = Refusal::NotWellFormed;
     assert_eq!((register.begin(0), register.write(0, 0, 7)), (Err(refused), Err(refused)));
-    assert_eq!((register.read(0, 0), register.try_commit(0)), (Err(refused), Err(refused)));
+    assert_eq!((register.read(0, 0), register.try_commit(0), register.give_up(0)), (Err(refused), Err(refused), Err(refused)));
     let transact = register.transact(0, 3, |_| -> Result<(), Stopped> { panic!("the begin is refused") });
     assert_eq!(transact, Err(NotCommitted::Refused(refused)));
-    assert_eq!(register.carry_on(0, 3, |_| Ok::<(), Stopped>(())), Err(NotCommitted::Refused(refused)));
 }
 
 #[test]
@@ -187,7 +187,7 @@ fn handlers_cells_and_codes_that_there_are_not() {
                 assert_eq!(register.read(0, cell), Err(refused), "cell {cell} of {cells}");
                 assert_eq!(register.write(0, cell, 7), Err(refused), "cell {cell} of {cells}");
             }
-            for code in (2..32).chain(96..300).chain([1 << 31, u32::MAX]) {
+            for code in (3..32).chain(96..300).chain([1 << 31, u32::MAX]) {
                 for handler in [0, handlers, u32::MAX] {
                     assert_eq!(register.step(handler, code, 7), Reply::Refused(Refusal::UnknownStep), "code {code}");
                 }

@@ -1,4 +1,4 @@
-//! The cases of docs/RULES.md, K1 to K13, through the library.
+//! The cases of docs/RULES.md, K1 to K14, through the library.
 use zidlemowo::{needed, Abort, Refusal, Register, Reply, Step};
 
 fn register(handlers: u32) -> Register<'static> {
@@ -38,7 +38,7 @@ fn k1_seventeen_words_open_and_sixteen_do_not() {
 fn k2_which_check_goes_first() {
     let mut register = register(1);
     assert_eq!(register.read(0, 31), Err(Refusal::NoCell));
-    assert_eq!(register.step(16, 2, 0), Reply::Refused(Refusal::UnknownStep));
+    assert_eq!(register.step(16, 3, 0), Reply::Refused(Refusal::UnknownStep));
 }
 
 #[test]
@@ -180,6 +180,22 @@ fn k13_sizes() {
     assert_eq!(Register::new(33, 1).unwrap_err(), Refusal::OutOfRange);
     assert_eq!(needed(32, 16), Some(2_642));
     assert_eq!(Register::new(32, 16).expect("the largest").words().len(), 2_642);
+}
+
+#[test]
+fn k14_give_up() {
+    let mut register = register(2);
+    commits(&mut register, 0, &[(1, 3)]);
+    commits(&mut register, 1, &[(0, 5)]);
+    let before = register.words().to_vec();
+    begins_and_reads(&mut register, 0, 0, 5);
+    assert_eq!(register.write(0, 1, 7), Ok(()));
+    assert_eq!(register.take(0, Step::GiveUp), Reply::Aborted(Abort::GaveUp));
+    assert_eq!(register.words(), before);
+    assert_eq!(register.give_up(0), Err(Refusal::NotOpen));
+    assert_eq!(register.begin(0), Ok(()));
+    assert_eq!(register.give_up(0), Ok(()));
+    assert_eq!(register.words(), before);
 }
 
 #[test]

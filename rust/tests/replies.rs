@@ -81,7 +81,7 @@ fn every_reply_leads_to_its_numbers_and_back() {
 fn numbers_that_stand_for_nothing_give_nothing() {
     for number in (0..1_000).chain([u32::MAX]) {
         assert_eq!(Abort::from_number(number).map_or(number, Abort::number), number);
-        assert_eq!(Abort::from_number(number).is_some(), (1..=3).contains(&number));
+        assert_eq!(Abort::from_number(number).is_some(), [1, 2, 3, 5].contains(&number));
         assert_eq!(Refusal::from_number(number).map_or(number, Refusal::number), number);
         assert_eq!(Reply::from_numbers(5, number), None);
         assert_eq!(Reply::from_numbers(0, number).is_some(), number == 0);

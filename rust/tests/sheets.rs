@@ -29,6 +29,14 @@ fn the_published_listing() {
     assert!((2..16).all(|handler| of(&sheet, handler) == Counts::default()));
 }
 
+#[test]
+fn a_give_up_is_counted() {
+    let mut sheet = Sheet::new();
+    assert_eq!(sheet.add(&example("give-up")), Ok(()));
+    assert_eq!(of(&sheet, 0), Counts { begun: 2, committed: 1, gave_up: 1, ..Counts::default() });
+    assert_eq!(of(&sheet, 1), Counts { begun: 1, committed: 1, ..Counts::default() });
+}
+
 /// How many lines of a run's text are a handler's and end so: `place handler code reply`.
 fn lines(text: &str, handler: u32, ending: &str) -> u32 {
     let own = |line: &&str| {
@@ -99,11 +107,11 @@ fn words_are_kept_and_taken_up_again() {
 #[test]
 fn a_table_is_aligned() {
     let mut words = [0; Sheet::WORDS];
-    (words[0], words[79]) = (u32::MAX, 5);
+    (words[0], words[95]) = (u32::MAX, 5);
     let table = Sheet::from_words(words).to_string();
     let lines: Vec<&str> = table.lines().collect();
     assert_eq!(lines.len(), 17);
     assert!(lines.iter().all(|line| line.len() == lines[0].len()), "{table}");
-    assert_eq!(lines[1], "      0 4294967295          0          0          0          0");
-    assert_eq!(lines[16], "     15          0          0          0          0          5");
+    assert_eq!(lines[1], "      0 4294967295          0          0          0          0          0");
+    assert_eq!(lines[16], "     15          0          0          0          0          0          5");
 }

@@ -81,77 +81,73 @@ fn a_spent_cell_is_given_at_once() {
     assert_eq!((result, count), (Err(NotCommitted::Aborted(Abort::Spent)), 1));
 }
 
+/// Handler 0 is idle, and nothing of its transaction is kept: every word is as it was.
+fn is_as_before(shared: &Shared<'_>, before: &[u32]) {
+    assert_eq!(shared.lock().words(), before);
+    assert_eq!(shared.take(0, Step::Try), Reply::Refused(Refusal::NotOpen));
+    assert_eq!(shared.take(0, Step::GiveUp), Reply::Refused(Refusal::NotOpen));
+}
+
 #[test]
-fn given_up_it_stays_open_and_can_be_carried_on() {
+fn given_up_after_a_write_nothing_is_kept() {
     let shared = shared(2);
+    assert_eq!(shared.transact(0, 1, |transaction| transaction.write(1, 8)), Ok(()));
+    let before = shared.lock().words().to_vec();
+    let mut count = 0;
     let given_up = shared.transact(0, 3, |transaction| -> Result<(), &str> {
+        count += 1;
         transaction.write(0, 5).map_err(|_| "refused")?;
         Err("the mast is off the air")
     });
-    assert_eq!(given_up, Err(NotCommitted::GaveUp("the mast is off the air")));
-    assert_eq!(values(&shared), [0, 0]);
+    assert_eq!((given_up, count), (Err(NotCommitted::GaveUp("the mast is off the air")), 1));
+    is_as_before(&shared, &before);
 
-    let open = shared.lock().words().to_vec();
+    // A later transaction of the handler commits, and not what was given up.
+    assert_eq!(shared.transact(0, 1, |transaction| transaction.write(1, 6)), Ok(()));
+    assert_eq!(values(&shared), [0, 6]);
+}
+
+#[test]
+fn given_up_after_a_read_that_is_overtaken_it_is_not_started_over() {
+    let (shared, mut count) = (shared(2), 0);
+    let result = shared.transact(0, 3, |transaction| {
+        count += 1;
+        let found = transaction.read(0);
+        other_commits(&shared, 9);
+        found.map_or(Ok(()), Err)
+    });
+    assert_eq!((result, count), (Err(NotCommitted::GaveUp(0)), 1));
+    assert_eq!((values(&shared), shared.take(0, Step::Begin)), ([9, 9], Reply::Done));
+}
+
+#[test]
+fn given_up_without_sharing() {
+    let mut register = Register::new(2, 1).expect("in range");
+    let before = register.words().to_vec();
+    let result = register.transact(0, 3, |transaction| transaction.write(0, 5).map_or(Ok(()), Err));
+    assert_eq!(result, Err(NotCommitted::GaveUp(())));
+    assert_eq!(register.words(), before);
+    assert_eq!(register.try_commit(0), Err(Refusal::NotOpen));
+}
+
+#[test]
+fn a_closure_on_a_handler_that_is_open_leaves_it_open() {
+    let shared = shared(1);
+    assert_eq!((shared.take(0, Step::Begin), shared.take(0, Step::Write(0, 5))), (Reply::Done, Reply::Done));
     let second = shared.transact(0, 3, |_| -> Result<(), Stopped> { panic!("the begin is refused") });
     assert_eq!(second, Err(NotCommitted::Refused(Refusal::AlreadyOpen)));
-    assert_eq!(shared.lock().words(), open);
-
-    assert_eq!(shared.carry_on(0, 1, |transaction| transaction.write(1, 6)), Ok(()));
-    assert_eq!(values(&shared), [5, 6]);
-    assert_eq!(shared.take(0, Step::Begin), Reply::Done);
+    assert_eq!((shared.take(0, Step::Try), values(&shared)), (Reply::Committed, [5, 0]));
 }
 
 #[test]
-fn given_up_before_the_first_write_a_try_changes_no_cell() {
-    for overtaken in [false, true] {
-        let shared = shared(2);
-        let result = shared.transact(0, 3, |transaction| transaction.read(0).map_or(Ok(()), Err));
-        assert_eq!(result, Err(NotCommitted::GaveUp(0)));
-        if overtaken {
-            other_commits(&shared, 9);
-        }
-        let before = values(&shared);
-        let tried = shared.lock().try_commit(0);
-        assert_eq!(tried, Ok(if overtaken { Err(Abort::Overtaken) } else { Ok(()) }));
-        assert_eq!(values(&shared), before);
-        assert_eq!(shared.take(0, Step::Begin), Reply::Done);
-    }
-}
-
-/// Handler 0 gives up after a write of cell 0.
-fn given_up_after_a_write(shared: &Shared<'_>) {
-    let result = shared.transact(0, 3, |transaction| transaction.write(0, 5).map_or(Ok(()), Err));
-    assert_eq!(result, Err(NotCommitted::GaveUp(())));
-}
-
-#[test]
-fn given_up_after_a_write_a_later_try_commits_it() {
-    let shared = shared(2);
-    given_up_after_a_write(&shared);
-    assert_eq!((values(&shared), shared.take(0, Step::Try), values(&shared)), ([0, 0], Reply::Committed, [5, 0]));
-}
-
-#[test]
-fn given_up_after_a_write_it_is_aborted_by_a_cell_that_is_committed_anew() {
-    let shared = shared(2);
-    given_up_after_a_write(&shared);
-    assert_eq!(shared.take(0, Step::Read(1)), Reply::Value(0));
-    assert_eq!(shared.transact(1, 1, |transaction| transaction.read(1).and_then(|same| transaction.write(1, same))), Ok(()));
-    assert_eq!(shared.take(0, Step::Try), Reply::Aborted(Abort::Overtaken));
-    assert_eq!((values(&shared), shared.take(0, Step::Begin)), ([0, 0], Reply::Done));
-}
-
-#[test]
-fn carried_on_after_an_abort_it_begins_anew() {
-    let shared = shared(2);
-    assert_eq!((shared.take(0, Step::Begin), shared.take(0, Step::Read(0))), (Reply::Done, Reply::Value(0)));
-    other_commits(&shared, 9);
-    assert_eq!(shared.carry_on(0, 1, |transaction| transaction.read(0)), Err(NotCommitted::Aborted(Abort::Overtaken)));
-    assert_eq!(shared.carry_on(0, 1, |_| Ok::<(), Stopped>(())), Err(NotCommitted::Refused(Refusal::NotOpen)));
-
-    assert_eq!((shared.take(0, Step::Begin), shared.take(0, Step::Read(0))), (Reply::Done, Reply::Value(9)));
-    other_commits(&shared, 8);
-    assert_eq!(shared.carry_on(0, 2, |transaction| transaction.read(0)), Ok(8));
+fn a_transaction_that_was_ended_behind_the_closure_is_not_given_up_again() {
+    let shared = shared(1);
+    let result = shared.transact(0, 3, |transaction| -> Result<(), ()> {
+        transaction.write(0, 5).map_err(|_| ())?;
+        assert_eq!(shared.take(0, Step::Try), Reply::Committed);
+        Err(())
+    });
+    assert_eq!((result, values(&shared)), (Err(NotCommitted::GaveUp(())), [5, 0]));
 }
 
 #[test]
@@ -167,8 +163,9 @@ fn a_refused_step_changes_nothing_and_the_closure_may_go_on() {
 }
 
 #[test]
-fn a_panic_leaves_it_open_and_the_register_usable() {
+fn a_panic_gives_up_and_leaves_the_register_usable() {
     let shared = shared(2);
+    let before = shared.lock().words().to_vec();
     let panicked = catch_unwind(AssertUnwindSafe(|| {
         shared.transact(0, 1, |transaction| -> Result<(), Stopped> {
             transaction.write(0, 5)?;
@@ -176,9 +173,38 @@ fn a_panic_leaves_it_open_and_the_register_usable() {
         })
     }));
     assert!(panicked.is_err());
-    assert_eq!(values(&shared), [0, 0]);
-    assert_eq!(shared.take(0, Step::Begin), Reply::Refused(Refusal::AlreadyOpen));
+    is_as_before(&shared, &before);
     other_commits(&shared, 9);
+    assert_eq!(shared.transact(0, 1, |transaction| transaction.read(0)), Ok(9));
+}
+
+#[test]
+fn a_panic_with_the_lock_held_gives_up_too() {
+    let shared = shared(1);
+    let before = shared.lock().words().to_vec();
+    let panicked = catch_unwind(AssertUnwindSafe(|| {
+        shared.transact(0, 1, |transaction| -> Result<(), Stopped> {
+            transaction.write(0, 5)?;
+            let _held = shared.lock();
+            panic!("in the closure, as the test wants it")
+        })
+    }));
+    assert!(panicked.is_err());
+    is_as_before(&shared, &before);
+}
+
+#[test]
+fn a_panic_without_sharing_gives_up_too() {
+    let mut register = Register::new(2, 1).expect("in range");
+    let before = register.words().to_vec();
+    let panicked = catch_unwind(AssertUnwindSafe(|| {
+        register.transact(0, 1, |transaction| -> Result<(), Stopped> {
+            transaction.write(0, 5)?;
+            panic!("in the closure, as the test wants it")
+        })
+    }));
+    assert!(panicked.is_err());
+    assert_eq!(register.words(), before);
 }
 
 /// Moves one from the first cell to the second. Whatever is read, also in attempts that come to nothing, adds up.

@@ -28,7 +28,7 @@ struct size {
 static const struct size sizes[] = {{1, 1}, {2, 1}, {3, 2}, {5, 16}, {31, 3}, {32, 1}, {32, 16}};
 
 // Codes of each kind, known and unknown.
-static const uint32_t some_codes[] = {0, 1, 2, 31, 32, 63, 64, 95, 96, 255, 256, 65535, UINT32_MAX};
+static const uint32_t some_codes[] = {0, 1, 2, 3, 31, 32, 63, 64, 95, 96, 255, 256, 65535, UINT32_MAX};
 
 static uint32_t *end;         // where the words lent end: behind it the memory can't be touched
 static uint32_t before[ROOM]; // the words as they were before a call
@@ -240,12 +240,10 @@ static void no_handler(struct size size) {
     const size_t need = zidlemowo_length(size.m, size.n);
     uint32_t *words = largest(size);
     for (size_t k = 0; k < COUNT(handlers); k++) {
-        step_refused("no handler begins", words, need, handlers[k], 0, ZIDLEMOWO_NO_HANDLER);
-        step_refused("no handler tries", words, need, handlers[k], 1, ZIDLEMOWO_NO_HANDLER);
-        for (uint32_t code = 32; code < 96; code++) {
-            step_refused("no handler reads or writes", words, need, handlers[k], code, ZIDLEMOWO_NO_HANDLER);
+        for (uint32_t code = 0; code < 96; code += code == 2 ? 30 : 1) {
+            step_refused("no handler's step", words, need, handlers[k], code, ZIDLEMOWO_NO_HANDLER);
         }
-        step_refused("no handler, no step", words, need, handlers[k], 96, ZIDLEMOWO_UNKNOWN_STEP);
+        step_refused("no handler, no step", words, need, handlers[k], 3, ZIDLEMOWO_UNKNOWN_STEP);
     }
 }
 
@@ -254,6 +252,7 @@ static void wrong_steps(struct size size) {
     const size_t need = zidlemowo_length(size.m, size.n);
     uint32_t *words = largest(size);
     step_refused("try while idle", words, need, 0, 1, ZIDLEMOWO_NOT_OPEN);
+    step_refused("give up while idle", words, need, 0, 2, ZIDLEMOWO_NOT_OPEN);
     for (uint32_t cell = 0; cell < size.m; cell++) {
         step_refused("read while idle", words, need, 0, 32 + cell, ZIDLEMOWO_NOT_OPEN);
         step_refused("write while idle", words, need, 0, 64 + cell, ZIDLEMOWO_NOT_OPEN);
@@ -269,11 +268,11 @@ static void wrong_steps(struct size size) {
     }
 }
 
-// Unknown codes: all up to 131,071, the last 65,536 up to 4,294,967,295, and every 65,521st between them.
+// Unknown codes, from 3 on: all up to 131,071, the last 65,536 up to 4,294,967,295, and every 65,521st between them.
 static void unknown_codes(void) {
     const struct size size = {2, 2};
     uint32_t *words = largest(size);
-    for (uint64_t code = 2; code <= UINT32_MAX; code += code < 131071 || code > UINT32_MAX - 65536 ? 1 : 65521) {
+    for (uint64_t code = 3; code <= UINT32_MAX; code += code < 131071 || code > UINT32_MAX - 65536 ? 1 : 65521) {
         if (code < 32 || code > 95) {
             step_refused("unknown code, idle", words, ZIDLEMOWO_WORDS(2, 2), 0, (uint32_t)code, ZIDLEMOWO_UNKNOWN_STEP);
             step_refused("unknown code, open", words, ZIDLEMOWO_WORDS(2, 2), 1, (uint32_t)code, ZIDLEMOWO_UNKNOWN_STEP);

@@ -5,6 +5,7 @@
 #include <inttypes.h>
 #include <stdio.h>
 #include <stdlib.h>
+#include <string.h>
 
 // A register of two cells and two handlers, and where its cell 0 has its own number.
 static uint32_t words[ZIDLEMOWO_WORDS(2, 2)];
@@ -69,6 +70,21 @@ static void tries(void) {
     demand("the number of cell 0", words[OWN_NUMBER], 65535);
 }
 
+// K14, in numbers and then in the header's names: a give up keeps nothing, and while idle it is refused.
+static void give_ups(void) {
+    static const struct line numbers[] = {{0, 0, 0, 0, 0}, {0, 32, 0, 1, 0}, {0, 65, 7, 0, 0}, {0, 2, 0, 3, 5}, {0, 2, 0, 4, 14}};
+    const struct line names[] = {{0, ZIDLEMOWO_BEGIN, 0, ZIDLEMOWO_OK, 0},
+                                 {0, zidlemowo_write_code(0), 9, ZIDLEMOWO_OK, 0},
+                                 {0, ZIDLEMOWO_GIVE_UP, 0, ZIDLEMOWO_ABORT, ZIDLEMOWO_GAVE_UP},
+                                 {0, ZIDLEMOWO_TRY, 0, ZIDLEMOWO_REFUSED, ZIDLEMOWO_NOT_OPEN}};
+    static uint32_t before[sizeof words / sizeof words[0]];
+    fresh(ZIDLEMOWO_MOST_NUMBER);
+    memcpy(before, words, sizeof before);
+    PLAY("a give up in numbers", numbers);
+    PLAY("a give up in names", names);
+    demand("a word changed by what was given up", memcmp(before, words, sizeof before) != 0, 0);
+}
+
 // The codes of all cells. A cell that no code names has an unknown one, never that of another step.
 static void codes(void) {
     static const uint32_t beyond[] = {32, 33, 63, 64, 95, 224, 65536, UINT32_MAX - 95, UINT32_MAX - 63, UINT32_MAX - 31, UINT32_MAX};
@@ -90,6 +106,7 @@ static void codes(void) {
 int main(void) {
     listing();
     tries();
+    give_ups();
     codes();
     printf("replies: every step code, kind and reason as documented\n");
     return EXIT_SUCCESS;

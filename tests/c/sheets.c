@@ -33,14 +33,21 @@ static const uint8_t listing_bytes[] = {
     0, 0, 1, 1, 1, 1, 0,                          // whose step is next
 };
 
+// One handler that gives up while idle, begins, writes, gives up, and begins again.
+static const uint8_t give_up_bytes[] = {
+    1, 1, 0, 10, 0, 9, 0, 19, 0, 5, // one handler, one cell, and the table
+    2, 0, 64, 0, 0, 0, 5, 2, 0,     // its script
+    0, 0, 0, 0, 0,                  // its turns
+};
+
 // Files that are refused: a table with a gap before the first body, and an unknown code in a script that is never ordered.
 static const uint8_t gap_bytes[] = {1, 1, 0, 11, 0, 0, 0, 11, 0, 0, 0};
-static const uint8_t unknown_bytes[] = {1, 1, 0, 10, 0, 1, 0, 11, 0, 0, 2};
+static const uint8_t unknown_bytes[] = {1, 1, 0, 10, 0, 1, 0, 11, 0, 0, 3};
 
 static uint32_t *end;                  // where the words lent end: behind it the memory can't be touched
 static uint32_t before[ROOM];          // the words as they were before a call
 static unsigned long refused, counted; // how many files were
-static struct file listing, short_by_one, gap, unknown, too_long;
+static struct file listing, give_up, short_by_one, gap, unknown, too_long;
 
 static void fail(const char *what, uint32_t given, uint32_t expected) {
     fprintf(stderr, "sheets: %s: %" PRIu32 ", but expected %" PRIu32 "\n", what, given, expected);
@@ -107,16 +114,25 @@ static uint32_t added_by_listing(size_t place) {
     }
 }
 
-// The listing, which has to be counted, and to change no other word of the room.
-static void is_counted(const char *what, uint32_t *words, size_t length) {
+// What the give up adds to the word at a place: handler 0 begins twice, and gives up once. Its first give up is refused.
+static uint32_t added_by_give_up(size_t place) {
+    switch (place) {
+    case ZIDLEMOWO_SHEET_BEGUN: return 2;
+    case ZIDLEMOWO_SHEET_GAVE_UP: return 1;
+    default: return 0;
+    }
+}
+
+// A file that has to be counted, with what it adds, and to change no other word of the room.
+static void is_counted(const char *what, uint32_t *words, size_t length, struct file file, uint32_t added(size_t place)) {
     memcpy(before, end - ROOM, sizeof before);
-    const uint32_t given = zidlemowo_sheet(words, length, listing.start, listing.length);
+    const uint32_t given = zidlemowo_sheet(words, length, file.start, file.length);
     if (given != 0) {
         fail(what, given, 0);
     }
     const size_t first = (size_t)(words - (end - ROOM));
     for (size_t k = 0; k < ROOM; k++) {
-        const uint32_t expected = before[k] + (k >= first ? added_by_listing(k - first) : 0);
+        const uint32_t expected = before[k] + (k >= first ? added(k - first) : 0);
         if ((end - ROOM)[k] != expected) {
             fail(what, (end - ROOM)[k], expected);
         }
@@ -156,7 +172,7 @@ static void full_sheets(size_t length) {
     for (size_t place = 0; place < ZIDLEMOWO_SHEET_WORDS; place++) {
         uint32_t *words = lend(length, 0);
         words[place] = ZIDLEMOWO_SHEET_MOST;
-        is_counted("a count at the border", words, length);
+        is_counted("a count at the border", words, length, listing, added_by_listing);
         words = lend(length, 0);
         words[place] = ZIDLEMOWO_SHEET_MOST + 1;
         is_refused("a count above the border", words, length, listing, ZIDLEMOWO_SHEET_FULL);
@@ -164,13 +180,15 @@ static void full_sheets(size_t length) {
         is_refused("the largest count", words, length, listing, ZIDLEMOWO_SHEET_FULL);
     }
     uint32_t *words = lend(length, ZIDLEMOWO_SHEET_MOST);
-    is_counted("all counts at the border", words, length);
+    is_counted("all counts at the border", words, length, listing, added_by_listing);
     is_refused("the same file once more", words, length, listing, ZIDLEMOWO_SHEET_FULL);
+    is_counted("a give up", lend(length, 7), length, give_up, added_by_give_up);
 }
 
 int main(void) {
     end = (uint32_t *)(void *)end_of_memory(ROOM * sizeof(uint32_t));
     listing = file_of(listing_bytes, sizeof listing_bytes, sizeof listing_bytes);
+    give_up = file_of(give_up_bytes, sizeof give_up_bytes, sizeof give_up_bytes);
     short_by_one = file_of(listing_bytes, sizeof listing_bytes - 1, sizeof listing_bytes - 1);
     gap = file_of(gap_bytes, sizeof gap_bytes, sizeof gap_bytes);
     unknown = file_of(unknown_bytes, sizeof unknown_bytes, sizeof unknown_bytes);

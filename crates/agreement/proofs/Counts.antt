@@ -4,7 +4,7 @@ use mathlib.Core.Path.{_≡_, refl, sym, ap, _∙_}
 use mathlib.Core.List.{List}
 use lib.ListN.{length}
 use Rattle.rules.specs.steps.Tables.{if_then_else_}
-use Rattle.rules.specs.steps.Codes.{Step, begin, try, read, write, known, plainSheet}
+use Rattle.rules.specs.steps.Codes.{Step, begin, try, giveUp, read, write, known, plainSheet}
 use Rattle.rules.specs.steps.Replies.{Outcome, ok, value, committed, aborted, Reply}
 use Rattle.rules.specs.history.History.{History, note, noteOk, noteValue, noteCommit, noteAbort, doing, ended, noteReply}
 use Rattle.rules.proofs.history.Alike.{length-same}
@@ -29,10 +29,12 @@ note-counts h i begin v ok = refl
 note-counts h i (write x) v ok = refl
 note-counts h i (read x) v ok = refl
 note-counts h i try v ok = refl
+note-counts h i giveUp v ok = refl
 note-counts h i begin v (value w) = refl
 note-counts h i (write x) v (value w) = refl
 note-counts h i (read x) v (value w) = refl
 note-counts h i try v (value w) = refl
+note-counts h i giveUp v (value w) = refl
 note-counts h i s v committed = refl
 note-counts h i s v (aborted reason) = refl
 

@@ -1,4 +1,4 @@
--- K1 to K12: one claim over the one list of cases, which antt computes.
+-- K1 to K12 and K14: one claim over the one list of cases, which antt computes.
 use mathlib.Core.Path.{_≡_, refl}
 use mathlib.Core.List.{map}
 use Rattle.rules.specs.steps.Tables.{put, orElse, lowest, someBelow}

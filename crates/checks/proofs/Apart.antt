@@ -7,7 +7,7 @@ use Rattle.rules.proofs.Determined.{Determined, determined}
 use Rattle.rules.proofs.steps.Numbers.{Injective, read-back}
 use Rattle.replies.proofs.Apart.{refusalBack, refusal-same}
 use Rattle.checks.specs.declared.Kind.{Kind}
-use Rattle.checks.specs.declared.Kind.the-variants.{Begin, Try, Read, Write, Unknown}
+use Rattle.checks.specs.declared.Kind.the-variants.{Begin, Try, GiveUp, Read, Write, Unknown}
 use Rattle.checks.specs.declared.Verdict.{Verdict}
 use Rattle.checks.specs.declared.Verdict.the-variants.{Passes, Refuses}
 use Rattle.checks.specs.Meaning.{kindIs, verdictIs}
@@ -16,6 +16,7 @@ use Rattle.checks.specs.Meaning.{kindIs, verdictIs}
 kindBack : Codes.Kind → Kind
 kindBack (Codes.known Codes.begin) = Begin
 kindBack (Codes.known Codes.try) = Try
+kindBack (Codes.known Codes.giveUp) = GiveUp
 kindBack (Codes.known (Codes.read x)) = Read x
 kindBack (Codes.known (Codes.write x)) = Write x
 kindBack Codes.unknown = Unknown
@@ -24,6 +25,7 @@ kind-same : (kind : Kind) → kindBack (kindIs kind) ≡ kind
 unfolding kindBack
 kind-same Begin = refl
 kind-same Try = refl
+kind-same GiveUp = refl
 kind-same (Read x) = refl
 kind-same (Write x) = refl
 kind-same Unknown = refl

@@ -4,7 +4,7 @@ use Rattle.rules.specs.steps.Codes as Codes
 use Rattle.rules.specs.steps.Replies as Rules
 use Rattle.replies.specs.Meaning.{refusalIs}
 use Rattle.checks.specs.declared.Kind.{Kind}
-use Rattle.checks.specs.declared.Kind.the-variants.{Begin, Try, Read, Write, Unknown}
+use Rattle.checks.specs.declared.Kind.the-variants.{Begin, Try, GiveUp, Read, Write, Unknown}
 use Rattle.checks.specs.declared.Verdict.{Verdict}
 use Rattle.checks.specs.declared.Verdict.the-variants.{Passes, Refuses}
 
@@ -12,6 +12,7 @@ use Rattle.checks.specs.declared.Verdict.the-variants.{Passes, Refuses}
 abbrev pub kindIs : Kind → Codes.Kind
 kindIs Begin = Codes.known Codes.begin
 kindIs Try = Codes.known Codes.try
+kindIs GiveUp = Codes.known Codes.giveUp
 kindIs (Read x) = Codes.known (Codes.read x)
 kindIs (Write x) = Codes.known (Codes.write x)
 kindIs Unknown = Codes.unknown

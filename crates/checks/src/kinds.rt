@@ -12,6 +12,7 @@ pub fn is_unknown(kind: Kind) -> bool
         Kind::Unknown => true,
         Kind::Begin => false,
         Kind::Try => false,
+        Kind::GiveUp => false,
         Kind::Read(_) => false,
         Kind::Write(_) => false,
     }
@@ -26,6 +27,7 @@ pub fn is_beyond(kind: Kind, m: usize) -> bool
         Kind::Write(x) => m <= x,
         Kind::Begin => false,
         Kind::Try => false,
+        Kind::GiveUp => false,
         Kind::Unknown => false,
     }
 }
@@ -37,6 +39,7 @@ pub fn is_begin(kind: Kind) -> bool
     match kind {
         Kind::Begin => true,
         Kind::Try => false,
+        Kind::GiveUp => false,
         Kind::Read(_) => false,
         Kind::Write(_) => false,
         Kind::Unknown => false,

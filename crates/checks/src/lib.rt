@@ -15,6 +15,7 @@ use replies::Refusal;
 pub enum Kind {
     Begin,
     Try,
+    GiveUp,
     Read(usize),
     Write(usize),
     Unknown,
@@ -33,6 +34,7 @@ pub fn kind_of(code: u32) -> Kind
     match code {
         0 => Kind::Begin,
         1 => Kind::Try,
+        2 => Kind::GiveUp,
         32..=63 => Kind::Read((code - 32) as usize),
         64..=95 => Kind::Write((code - 64) as usize),
         _ => Kind::Unknown,

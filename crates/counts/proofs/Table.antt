@@ -1,4 +1,4 @@
--- The table of counts, computed row by row: what a reply of each kind adds to the five counts of its handler; and that a column belongs to
+-- The table of counts, computed row by row: what a reply of each kind adds to the six counts of its handler; and that a column belongs to
 -- one count.
 use Prim.Native.Nat.{ℕ, zero, suc}
 use mathlib.Core.Path.{_≡_, refl}
@@ -6,55 +6,61 @@ use mathlib.Core.List.{List, [], _∷_}
 use Rattle.rules.specs.steps.Codes.{plainSheet}
 use Rattle.rules.specs.steps.Replies as Rules
 use Rattle.rules.proofs.steps.Numbers.{Injective, read-back}
-use Rattle.counts.specs.Counting.{Count, begun, committed, torn, overtaken, spent, column, raisedBy, raised, isIn, adds}
+use Rattle.counts.specs.Counting.{Count, begun, committed, torn, overtaken, spent, gaveUp, column, raisedBy, raised, isIn, adds}
 
 -- ── What replies add ──────────────────────────────────────────────────
 
--- What a reply to a step code adds to each count: begun, committed, torn, overtaken, spent.
+-- What a reply to a step code adds to each count: begun, committed, torn, overtaken, spent, given up.
 added : ℕ → Rules.Reply ℕ → List ℕ
-added code reply = let count = raised code reply in adds count 0 ∷ adds count 1 ∷ adds count 2 ∷ adds count 3 ∷ adds count 4 ∷ []
+added code reply =
+    let count = raised code reply in
+    adds count 0 ∷ adds count 1 ∷ adds count 2 ∷ adds count 3 ∷ adds count 4 ∷ adds count 5 ∷ []
 
 -- The same for a step that is taken, of handler 3.
 taken : ℕ → Rules.Outcome ℕ → List ℕ
 taken code outcome = added code (Rules.reported (record { handler = 3; code = code; outcome = outcome }))
 
 -- A begin that is done adds to begun,
-begin-done : taken 0 Rules.ok ≡ 1 ∷ 0 ∷ 0 ∷ 0 ∷ 0 ∷ []
+begin-done : taken 0 Rules.ok ≡ 1 ∷ 0 ∷ 0 ∷ 0 ∷ 0 ∷ 0 ∷ []
 unfolding added taken raised raisedBy isIn plainSheet
 begin-done = refl
 
 -- and one that is refused to none.
-begin-refused : added 0 (Rules.Reply.refused Rules.alreadyOpen) ≡ 0 ∷ 0 ∷ 0 ∷ 0 ∷ 0 ∷ []
+begin-refused : added 0 (Rules.Reply.refused Rules.alreadyOpen) ≡ 0 ∷ 0 ∷ 0 ∷ 0 ∷ 0 ∷ 0 ∷ []
 unfolding added raised isIn
 begin-refused = refl
 
 -- A write that is done adds to none,
-write-done : taken 64 Rules.ok ≡ 0 ∷ 0 ∷ 0 ∷ 0 ∷ 0 ∷ []
+write-done : taken 64 Rules.ok ≡ 0 ∷ 0 ∷ 0 ∷ 0 ∷ 0 ∷ 0 ∷ []
 unfolding added taken raised raisedBy isIn plainSheet
 write-done = refl
 
 -- and so does a read that gives a value.
-read-value : taken 32 (Rules.value 7) ≡ 0 ∷ 0 ∷ 0 ∷ 0 ∷ 0 ∷ []
+read-value : taken 32 (Rules.value 7) ≡ 0 ∷ 0 ∷ 0 ∷ 0 ∷ 0 ∷ 0 ∷ []
 unfolding added taken raised raisedBy isIn
 read-value = refl
 
 -- A commit adds to committed.
-try-committed : taken 1 Rules.committed ≡ 0 ∷ 1 ∷ 0 ∷ 0 ∷ 0 ∷ []
+try-committed : taken 1 Rules.committed ≡ 0 ∷ 1 ∷ 0 ∷ 0 ∷ 0 ∷ 0 ∷ []
 unfolding added taken raised raisedBy isIn
 try-committed = refl
 
 -- Each reason of an abort adds to its own count.
-read-torn : taken 32 (Rules.aborted Rules.torn) ≡ 0 ∷ 0 ∷ 1 ∷ 0 ∷ 0 ∷ []
+read-torn : taken 32 (Rules.aborted Rules.torn) ≡ 0 ∷ 0 ∷ 1 ∷ 0 ∷ 0 ∷ 0 ∷ []
 unfolding added taken raised raisedBy isIn
 read-torn = refl
 
-try-overtaken : taken 1 (Rules.aborted Rules.overtaken) ≡ 0 ∷ 0 ∷ 0 ∷ 1 ∷ 0 ∷ []
+try-overtaken : taken 1 (Rules.aborted Rules.overtaken) ≡ 0 ∷ 0 ∷ 0 ∷ 1 ∷ 0 ∷ 0 ∷ []
 unfolding added taken raised raisedBy isIn
 try-overtaken = refl
 
-try-spent : taken 1 (Rules.aborted Rules.spent) ≡ 0 ∷ 0 ∷ 0 ∷ 0 ∷ 1 ∷ []
+try-spent : taken 1 (Rules.aborted Rules.spent) ≡ 0 ∷ 0 ∷ 0 ∷ 0 ∷ 1 ∷ 0 ∷ []
 unfolding added taken raised raisedBy isIn
 try-spent = refl
+
+gave-up : taken 2 (Rules.aborted Rules.gaveUp) ≡ 0 ∷ 0 ∷ 0 ∷ 0 ∷ 0 ∷ 1 ∷ []
+unfolding added taken raised raisedBy isIn
+gave-up = refl
 
 -- ── One count to a column ─────────────────────────────────────────────
 
@@ -64,7 +70,8 @@ countBack zero = begun
 countBack (suc zero) = committed
 countBack (suc (suc zero)) = torn
 countBack (suc (suc (suc zero))) = overtaken
-countBack (suc (suc (suc (suc k)))) = spent
+countBack (suc (suc (suc (suc zero)))) = spent
+countBack (suc (suc (suc (suc (suc k))))) = gaveUp
 
 count-back : (count : Count) → countBack (column count) ≡ count
 unfolding countBack
@@ -73,6 +80,7 @@ count-back committed = refl
 count-back torn = refl
 count-back overtaken = refl
 count-back spent = refl
+count-back gaveUp = refl
 
 -- No two counts stand in the same column.
 pub columns-apart : Injective column

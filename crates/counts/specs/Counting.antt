@@ -12,7 +12,7 @@ use Rattle.rules.specs.steps.Replies.{Outcome, ok, value, aborted, Reply, repor
 
 -- The counts of a handler.
 pub data Count : Type 0 where
-  begun committed torn overtaken spent : Count
+  begun committed torn overtaken spent gaveUp : Count
 
 -- The column of a count: where it stands in a handler's row.
 abbrev pub column : Count → ℕ
@@ -21,6 +21,7 @@ column committed = 1
 column torn = 2
 column overtaken = 3
 column spent = 4
+column gaveUp = 5
 
 -- THE TABLE: the count that a step of some kind raises by what it came to, if it raises one.
 unfoldable pub raisedBy : Kind → Outcome ℕ → Option Count
@@ -30,6 +31,7 @@ raisedBy kind Rules.committed = some committed
 raisedBy kind (aborted Rules.torn) = some torn
 raisedBy kind (aborted Rules.overtaken) = some overtaken
 raisedBy kind (aborted Rules.spent) = some spent
+raisedBy kind (aborted Rules.gaveUp) = some gaveUp
 
 -- The count that the reply to a step code raises; a refused step raises none.
 unfoldable pub raised : ℕ → Reply ℕ → Option Count

@@ -12,15 +12,15 @@ use Rattle.counts.specs.Counting.{Count, isIn, adds}
 
 -- The counts in the order of their columns.
 abbrev pub rowOf : Counts → List ℕ
-rowOf counts = counts .begun ∷ counts .committed ∷ counts .torn ∷ counts .overtaken ∷ counts .spent ∷ []
+rowOf counts = counts .begun ∷ counts .committed ∷ counts .torn ∷ counts .overtaken ∷ counts .spent ∷ counts .«given_up» ∷ []
 
 -- The count in a column.
 abbrev pub inColumn : Counts → ℕ → ℕ
 inColumn counts k = getD (rowOf counts) k 0
 
--- The column is that of the count that is raised, and none of the five where none is.
+-- The column is that of the count that is raised, and none of the six where none is.
 pub record RaisedAt (raised : Option Count) (at : ℕ) : Type 0 where
-  pub shown : (k : ℕ) → k < 5 → eqb at k ≡ isIn k raised
+  pub shown : (k : ℕ) → k < 6 → eqb at k ≡ isIn k raised
 
 -- What a column adds to the count in column k: 1 where they are the same.
 abbrev pub oneAt : ℕ → ℕ → ℕ
@@ -32,11 +32,11 @@ pub record AddedAt (at k one : ℕ) : Type 0 where
 
 -- The count in a column is one higher than before, and the others are as they were.
 pub record RaisedIn (at : ℕ) (before after : Counts) : Type 0 where
-  pub raises : (k : ℕ) → k < 5 → inColumn after k ≡ inColumn before k + oneAt at k
+  pub raises : (k : ℕ) → k < 6 → inColumn after k ≡ inColumn before k + oneAt at k
 
 -- The count that is raised is one higher than before, and the others are as they were.
 pub record BroughtUp (raised : Option Count) (before after : Counts) : Type 0 where
-  pub raises : (k : ℕ) → k < 5 → inColumn after k ≡ inColumn before k + adds raised k
+  pub raises : (k : ℕ) → k < 6 → inColumn after k ≡ inColumn before k + adds raised k
 
 -- Each count can be raised.
 pub record Room (counts : Counts) : Type 0 where
@@ -45,3 +45,4 @@ pub record Room (counts : Counts) : Type 0 where
   pub torn : counts .torn < 4294967295
   pub overtaken : counts .overtaken < 4294967295
   pub spent : counts .spent < 4294967295
+  pub givenUp : counts .«given_up» < 4294967295

@@ -18,10 +18,11 @@ pub struct Counts {
     pub torn: u32,
     pub overtaken: u32,
     pub spent: u32,
+    pub given_up: u32,
 }
 
 // Where no count is raised: a column beyond the last.
-const NO_COLUMN: usize = 5;
+const NO_COLUMN: usize = 6;
 
 // The column of the count that a step raises by being done: a begin's alone.
 fn done_column(kind: Kind) -> usize
@@ -30,6 +31,7 @@ fn done_column(kind: Kind) -> usize
     match kind {
         Kind::Begin => 0,
         Kind::Try => NO_COLUMN,
+        Kind::GiveUp => NO_COLUMN,
         Kind::Read(_) => NO_COLUMN,
         Kind::Write(_) => NO_COLUMN,
         Kind::Unknown => NO_COLUMN,
@@ -48,6 +50,7 @@ fn outcome_column(kind: Kind, outcome: Outcome) -> usize
             Reason::Torn => 2,
             Reason::Overtaken => 3,
             Reason::Spent => 4,
+            Reason::GaveUp => 5,
         },
     }
 }
@@ -86,6 +89,7 @@ fn with_raised(counts: Counts, column: usize) -> Counts
         torn: counts.torn + one_at(column, 2),
         overtaken: counts.overtaken + one_at(column, 3),
         spent: counts.spent + one_at(column, 4),
+        given_up: counts.given_up + one_at(column, 5),
     }
 }
 

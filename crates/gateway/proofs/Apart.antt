@@ -4,8 +4,8 @@ use Prim.Native.Nat.{ℕ, _^_, _≤_, _<_}
 use native.Mathlib.Omega.{arith}
 use mathlib.Core.Path.{_≡_, refl, sym, ap}
 use mathlib.Core.Option.{none, some}
-use Rattle.rules.specs.steps.Replies.{torn, overtaken, spent, Outcome, ok, value, committed, aborted, Refusal, Reply, reported, Opening, ready}
-use Rattle.rules.specs.steps.Replies.{notWellFormed, noHandler, noCell, alreadyOpen, notOpen, unknownStep, outOfRange, tooShort}
+use Rattle.rules.specs.steps.Replies.{torn, overtaken, spent, gaveUp, Outcome, ok, value, committed, aborted, Refusal, Reply, reported, Opening}
+use Rattle.rules.specs.steps.Replies.{ready, notWellFormed, noHandler, noCell, alreadyOpen, notOpen, unknownStep, outOfRange, tooShort}
 use Rattle.rules.specs.steps.Replies.{badFile, usedUp, tooManyCommits, sheetFull}
 use Rattle.rules.specs.steps.Replies.{Numbers, refusalNumber, outcomeNumbers, refusalNumbers, replyNumbers}
 use Rattle.rules.specs.demand.Demand.{reportedTo}
@@ -59,6 +59,7 @@ outcome-small committed fits = omega arith
 outcome-small (aborted torn) fits = omega arith
 outcome-small (aborted overtaken) fits = omega arith
 outcome-small (aborted spent) fits = omega arith
+outcome-small (aborted gaveUp) fits = omega arith
 
 -- and so does a refusal's number, which is not 0.
 refusal-between : (refusal : Refusal) → (0 < refusalNumber refusal) × (refusalNumber refusal < 2 ^ 32)

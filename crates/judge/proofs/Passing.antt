@@ -3,8 +3,8 @@ use Prim.Native.Nat.{ℕ}
 use mathlib.Core.Path.{_≡_, refl, ap}
 use mathlib.Core.Bool.{true, false}
 use mathlib.Core.List.{List}
-use Rattle.rules.specs.steps.Codes.{Step, begin, write}
-use Rattle.rules.specs.steps.Replies.{ok, Outcome, tooManyCommits, Reply}
+use Rattle.rules.specs.steps.Codes.{Step, begin, giveUp, write}
+use Rattle.rules.specs.steps.Replies.{gaveUp, ok, aborted, Outcome, tooManyCommits, Reply}
 use Rattle.rules.specs.demand.Demand.{reportedTo}
 use Rattle.rules.specs.demand.Judge.{answer}
 use Rattle.ledger.specs.Entries.{commitsNoted, entryIn, withEntry, handlerRow}
@@ -22,6 +22,12 @@ pub takes-begin : (words : List ℕ) (i v : ℕ) {row : ℕ} {after : List ℕ} 
     → TakesNoted words i begin v ok after
 unfolding answer noteOutcome
 takes-begin words i v there left = record { replied = refl; left = in-row words i (λ _. emptyEntry 1) there left }
+
+-- so is a give up,
+pub takes-give-up : (words : List ℕ) (i v : ℕ) {row : ℕ} {after : List ℕ} → row ≡ handlerRow i → after ≡ withEntry words row (emptyEntry 0)
+    → TakesNoted words i giveUp v (aborted gaveUp) after
+unfolding answer noteOutcome
+takes-give-up words i v there left = record { replied = refl; left = in-row words i (λ _. emptyEntry 0) there left }
 
 -- and a write by noting it there.
 pub takes-write : (words : List ℕ) (i x v : ℕ) {row : ℕ} {after : List ℕ} → row ≡ handlerRow i

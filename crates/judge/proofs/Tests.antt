@@ -7,7 +7,7 @@ use lib.ListN.{length, getD}
 use lib.Dec.{eqb, leb}
 use borrow.Author.Tests.{lt-leb, le-leb}
 use Rattle.rules.specs.steps.Tables.{if_then_else_}
-use Rattle.rules.specs.steps.Codes.{Step, begin, try, read, write}
+use Rattle.rules.specs.steps.Codes.{Step, begin, try, giveUp, read, write}
 use Rattle.rules.specs.steps.Replies.{overtaken, committed, aborted}
 use Rattle.rules.specs.steps.Checks.{inRange, firstHit}
 use Rattle.rules.specs.steps.Register.{Setting}
@@ -84,6 +84,11 @@ module _ (words : List ℕ) (i : ℕ) where
   pub begin-passes : false ≡ tooMany begin
   unfolding answer
   begin-passes = passes begin refl
+
+  -- a give up,
+  pub give-up-passes : false ≡ tooMany giveUp
+  unfolding answer
+  give-up-passes = passes giveUp refl
 
   -- a write
   pub write-passes : (x : ℕ) → false ≡ tooMany (write x)

@@ -49,6 +49,7 @@ pub fn is_too_many(words: &[u32], m: usize, i: usize, kind: Kind) -> bool
     match kind {
         Kind::Try => !answers::is_stale(words, m, places::handler_row(i), count),
         Kind::Begin => false,
+        Kind::GiveUp => false,
         Kind::Read(_) => false,
         Kind::Write(_) => false,
         Kind::Unknown => false,

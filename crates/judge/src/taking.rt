@@ -60,6 +60,10 @@ fn take(words: &mut [u32], m: usize, i: usize, kind: Kind, value: u32) -> Outcom
             Outcome::Done
         }
         Kind::Try => attempt(words, m, i),
+        Kind::GiveUp => {
+            noting::empty_row(words, places::handler_row(i), 0);
+            Outcome::Aborted(Reason::GaveUp)
+        }
         Kind::Read(x) => read(words, m, i, x),
         Kind::Write(x) => {
             noting::note_write(words, places::handler_row(i), x, value);

@@ -4,7 +4,7 @@ use native.Mathlib.Omega.{arith}
 use mathlib.Core.Path.{_≡_, refl, sym, ap, _∙_, subst}
 use mathlib.Core.Bool.{true, false, _||_}
 use mathlib.Core.List.{List, [], _∷_}
-use Rattle.rules.specs.steps.Codes.{Step, begin, try, read, write}
+use Rattle.rules.specs.steps.Codes.{Step, begin, try, giveUp, read, write}
 use Rattle.rules.specs.steps.Replies.{Outcome, ok, value, committed, aborted}
 use Rattle.rules.specs.steps.Register.{Setting}
 use Rattle.rules.specs.steps.Given.{Within, phaseFor}
@@ -120,10 +120,12 @@ module _ {words : List ℕ} (ledger : Ledger words) {i : ℕ} (seat : i < handle
   outcome-noted (write x) v ok inside phase room = write-is-noted phase x v inside
   outcome-noted (read x) v ok inside phase room = history-refl
   outcome-noted try v ok inside phase room = history-refl
+  outcome-noted giveUp v ok inside phase room = history-refl
   outcome-noted (read x) v (value w) inside phase room = read-is-noted phase x w inside
   outcome-noted begin v (value w) inside phase room = history-refl
   outcome-noted (write x) v (value w) inside phase room = history-refl
   outcome-noted try v (value w) inside phase room = history-refl
+  outcome-noted giveUp v (value w) inside phase room = history-refl
   outcome-noted s v committed inside phase room = commit-noted ledger seat (room refl) (h .aborts)
   outcome-noted s v (aborted reason) inside phase room = end-noted
 
@@ -135,11 +137,13 @@ module _ {words : List ℕ} (ledger : Ledger words) {i : ℕ} (seat : i < handle
   outcome-keeps (write x) v ok room = entry-put (writtenEntry entry x v)
   outcome-keeps (read x) v ok room = keeps-itself ledger
   outcome-keeps try v ok room = keeps-itself ledger
+  outcome-keeps giveUp v ok room = keeps-itself ledger
   outcome-keeps (read x) v (value w) room = by (hasRead (h .now i) x || hasWritten (h .now i) x)
       (λ e. rw e (keeps-itself ledger))
       (λ e. rw e (entry-put (readEntry entry x (writer (h .commits) x) w)))
   outcome-keeps begin v (value w) room = keeps-itself ledger
   outcome-keeps (write x) v (value w) room = keeps-itself ledger
   outcome-keeps try v (value w) room = keeps-itself ledger
+  outcome-keeps giveUp v (value w) room = keeps-itself ledger
   outcome-keeps s v committed room = commit-keeps ledger seat (room refl)
   outcome-keeps s v (aborted reason) room = entry-put (emptyEntry 0)

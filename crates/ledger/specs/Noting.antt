@@ -4,7 +4,7 @@ use mathlib.Core.Bool.{true, _||_}
 use mathlib.Core.List.{List}
 use lib.ListN.{set}
 use Rattle.rules.specs.steps.Tables.{if_then_else_, put}
-use Rattle.rules.specs.steps.Codes.{Step, begin, try, read, write, Kind, known, unknown}
+use Rattle.rules.specs.steps.Codes.{Step, begin, try, giveUp, read, write, Kind, known, unknown}
 use Rattle.rules.specs.steps.Replies.{Outcome, ok, value, committed, aborted, Reply, reported}
 use Rattle.rules.specs.steps.Register.{noCells, zeros}
 use Rattle.rules.specs.history.History.{hasRead, hasWritten, writer}
@@ -53,10 +53,12 @@ noteOutcome words i begin v ok = withHandlerEntry words i (emptyEntry 1)
 noteOutcome words i (write x) v ok = withHandlerEntry words i (writtenEntry (entryIn words (handlerRow i)) x v)
 noteOutcome words i (read x) v ok = words
 noteOutcome words i try v ok = words
+noteOutcome words i giveUp v ok = words
 noteOutcome words i (read x) v (value w) = noteRead words i x w
 noteOutcome words i begin v (value w) = words
 noteOutcome words i (write x) v (value w) = words
 noteOutcome words i try v (value w) = words
+noteOutcome words i giveUp v (value w) = words
 noteOutcome words i step v committed = noteCommitRow words i
 noteOutcome words i step v (aborted reason) = withHandlerEntry words i (emptyEntry 0)
 

@@ -35,4 +35,4 @@ ledgerRows = 81
 
 -- The counts of a handler in a duty sheet.
 abbrev pub sheetColumns : ℕ
-sheetColumns = 5
+sheetColumns = 6

@@ -54,7 +54,7 @@ pub const LEDGER_WORDS: usize = LEDGER_ROWS * LEDGER_ROW;
 pub const LEDGER_BEHIND: usize = LEDGER_WORDS - FRONT;
 
 // The counts of a handler in a duty sheet.
-pub const SHEET_COLUMNS: usize = 5;
+pub const SHEET_COLUMNS: usize = 6;
 
 // The words of a duty sheet: a row of counts for each handler that there can be.
 pub const SHEET_WORDS: usize = HANDLER_TABLE * SHEET_COLUMNS;

@@ -28,6 +28,7 @@ pub use ledger::source_at;
 pub use ledger::written_at;
 pub use sheet::BEGUN;
 pub use sheet::COMMITTED;
+pub use sheet::GAVE_UP;
 pub use sheet::OVERTAKEN;
 pub use sheet::SPENT;
 pub use sheet::TORN;

@@ -18,6 +18,9 @@ pub const OVERTAKEN: usize = 3;
 // In a row: those spent.
 pub const SPENT: usize = 4;
 
+// In a row: those given up.
+pub const GAVE_UP: usize = 5;
+
 // Where the row of a handler begins.
 pub fn sheet_row(handler: usize) -> usize
     requires { ⌜ handler < mostHandlers ⌝ }

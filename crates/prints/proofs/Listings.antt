@@ -18,11 +18,11 @@ use Rattle.schedule.specs.Admitting.{fileChecks, fileRefusal, admitted, admissi
 use Rattle.runs.specs.ByRules.{nextAsked, ordered, runFrom, started, playedBy, runOf}
 use Rattle.agreement.specs.Agreement.{cutAfter, commitsAmong}
 use Rattle.prints.specs.Printed.{playedText, printed, judgedText, judgedPrinted}
-use Rattle.prints.specs.Listings.{written, published, empty, unknown, unordered, listings}
+use Rattle.prints.specs.Listings.{written, published, givenUp, empty, unknown, unordered, listings}
 
 -- The runner prints each listing,
 pub listings-printed : map (λ l. printed (l .file)) listings ≡ map (λ l. l .text) listings
-unfolding listings published empty unknown unordered written
+unfolding listings published givenUp empty unknown unordered written
     playedText lineText linesText headerText cellText cellsText refusedText spelled
     runOf playedBy started runFrom ordered nextAsked admissionOf admitted fileRefusal fileChecks
     stepsBehind isSoundFile isSoundTable isPlaced dueAt shortAt longAt everyBelow inRange
@@ -33,7 +33,7 @@ listings-printed = refl
 
 -- and so does the judge.
 pub listings-judged : map (λ l. judgedPrinted (l .file)) listings ≡ map (λ l. l .text) listings
-unfolding listings published empty unknown unordered written
+unfolding listings published givenUp empty unknown unordered written
     judgedText cutAfter commitsAmong lineText linesText headerText cellText cellsText refusedText spelled
     runOf playedBy started runFrom ordered nextAsked admissionOf admitted fileRefusal fileChecks
     stepsBehind isSoundFile isSoundTable isPlaced dueAt shortAt longAt everyBelow inRange

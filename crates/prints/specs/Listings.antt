@@ -1,5 +1,5 @@
--- Files in bytes, and what is printed of them, line by line: the published listing, a file refused with 30, one refused with 15, and
--- order places refused with 11 and with 32. proofs/Listings.antt computes that the runner and the judge print just this.
+-- Files in bytes, and what is printed of them, line by line: the published listing, a transaction that gives up, a file refused with 30,
+-- one refused with 15, and order places refused with 11 and with 32. proofs/Listings.antt computes that the runner and the judge print just this.
 use Prim.Native.Nat.{ℕ}
 use Prim.Native.String.{String}
 use mathlib.Core.List.{List, [], _∷_, _++_}
@@ -29,13 +29,21 @@ published = record {
       "6 0 33 abort 1" ∷ "cell 0 value 5 number 1" ∷ "cell 1 value 7 number 1" ∷ []);
 }
 
+-- A handler that writes 0 := 7 and gives up, and then gives up once more, idle.
+unfoldable pub givenUp : Listing
+givenUp = record {
+  file = 1 ∷ 1 ∷ 0 ∷ 10 ∷ 0 ∷ 8 ∷ 0 ∷ 18 ∷ 0 ∷ 4 ∷ 0 ∷ 64 ∷ 0 ∷ 0 ∷ 0 ∷ 7 ∷ 2 ∷ 2 ∷ 0 ∷ 0 ∷ 0 ∷ 0 ∷ [];
+  text = written (
+      "handlers 1 cells 1" ∷ "0 0 0 ok" ∷ "1 0 64 ok" ∷ "2 0 2 abort 5" ∷ "3 0 2 refused 14" ∷ "cell 0 value 0 number 0" ∷ []);
+}
+
 -- A file with no byte.
 unfoldable pub empty : Listing
 empty = record { file = []; text = written ("refused 30" ∷ []) }
 
--- A script with the unknown code 2, which is not ordered.
+-- A script with the unknown code 3, which is not ordered.
 unfoldable pub unknown : Listing
-unknown = record { file = 1 ∷ 1 ∷ 0 ∷ 10 ∷ 0 ∷ 1 ∷ 0 ∷ 11 ∷ 0 ∷ 0 ∷ 2 ∷ []; text = written ("refused 15" ∷ []) }
+unknown = record { file = 1 ∷ 1 ∷ 0 ∷ 10 ∷ 0 ∷ 1 ∷ 0 ∷ 11 ∷ 0 ∷ 0 ∷ 3 ∷ []; text = written ("refused 15" ∷ []) }
 
 -- An order that names handler 1 of one handler, and handler 0 once too often.
 unfoldable pub unordered : Listing
@@ -46,4 +54,4 @@ unordered = record {
 
 -- All of them.
 unfoldable pub listings : List Listing
-listings = published ∷ empty ∷ unknown ∷ unordered ∷ []
+listings = published ∷ givenUp ∷ empty ∷ unknown ∷ unordered ∷ []

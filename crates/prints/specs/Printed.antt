@@ -2,13 +2,12 @@
 -- means to print it into a lent buffer.
 use Prim.Native.Nat.{ℕ}
 use mathlib.Core.List.{List, [], _++_}
-use lib.ListN.{length}
 use lib.Dec.{ltb}
 use Rattle.rules.specs.Promise.{Due, Promise}
 use Rattle.rules.specs.steps.Tables.{if_then_else_}
 use Rattle.rules.specs.steps.Register.{Register}
 use Rattle.replies.specs.Ends.{cellLine}
-use Rattle.text.specs.Lies.{over}
+use Rattle.text.specs.Lies.{putting}
 use Rattle.lines.specs.Texts.{headerText, linesText, cellText, cellsText, refusedText}
 use Rattle.runs.specs.ByRules.{Played, ran, runOf}
 use Rattle.agreement.specs.Agreement.{cutAfter, commitsAmong}
@@ -44,10 +43,9 @@ pub record PrintCall : Type 0 where
   pub file : List ℕ
   pub buffer : List ℕ
 
--- What printing comes to, as with C's snprintf: the reply is the length of the whole text; the buffer begins with as much of it as
--- fits, and the bytes behind are untouched.
+-- What printing comes to: the text of the file is put into the buffer.
 abbrev pub printing : (List ℕ → List ℕ) → PrintCall → Due ℕ (List ℕ)
-printing text call = record { reply = length (text (call .file)); leaves = over (text (call .file)) (call .buffer) }
+printing text call = putting (text (call .file)) (call .buffer)
 
 -- THE PROMISE OF A WHOLE RUN.
 abbrev pub RunPromise : List ℕ → List ℕ → ℕ → List ℕ → Type 0

@@ -1,4 +1,4 @@
--- A begin or a write changes one handler's block, a part in the middle of the register, and no word outside it. So does a read.
+-- A begin, a write or a give up changes one handler's block, a part in the middle of the register, and no word outside it. So does a read.
 use Prim.Native.Nat.{ℕ, _+_, _≤_, _<_}
 use native.Mathlib.Omega.{arith}
 use mathlib.Core.Path.{_≡_, sym, ap, ap₂, _∙_, subst, fun-ext}

@@ -7,7 +7,7 @@ use Rattle.rules.specs.steps.Replies as Rules
 use Rattle.rules.proofs.Determined.{Determined, determined}
 use Rattle.rules.proofs.steps.Numbers.{Injective, read-back}
 use Rattle.replies.specs.declared.Reason.{Reason}
-use Rattle.replies.specs.declared.Reason.the-variants.{Torn, Overtaken, Spent}
+use Rattle.replies.specs.declared.Reason.the-variants.{Torn, Overtaken, Spent, GaveUp}
 use Rattle.replies.specs.declared.Outcome.{Outcome}
 use Rattle.replies.specs.declared.Outcome.the-variants.{Done, Value, Committed, Aborted}
 use Rattle.replies.specs.declared.Refusal.{Refusal}
@@ -28,6 +28,7 @@ reasonBack : Rules.Reason → Reason
 reasonBack Rules.torn = Torn
 reasonBack Rules.overtaken = Overtaken
 reasonBack Rules.spent = Spent
+reasonBack Rules.gaveUp = GaveUp
 
 outcomeBack : Rules.Outcome ℕ → Outcome
 outcomeBack Rules.ok = Done
@@ -68,6 +69,7 @@ unfolding reasonBack
 reason-same Torn = refl
 reason-same Overtaken = refl
 reason-same Spent = refl
+reason-same GaveUp = refl
 
 outcome-same : (outcome : Outcome) → outcomeBack (outcomeIs outcome) ≡ outcome
 unfolding outcomeBack

@@ -3,7 +3,7 @@
 use Prim.Native.Nat.{ℕ}
 use Rattle.rules.specs.steps.Replies as Rules
 use Rattle.replies.specs.declared.Reason.{Reason}
-use Rattle.replies.specs.declared.Reason.the-variants.{Torn, Overtaken, Spent}
+use Rattle.replies.specs.declared.Reason.the-variants.{Torn, Overtaken, Spent, GaveUp}
 use Rattle.replies.specs.declared.Outcome.{Outcome}
 use Rattle.replies.specs.declared.Outcome.the-variants.{Done, Value, Committed, Aborted}
 use Rattle.replies.specs.declared.Refusal.{Refusal}
@@ -20,6 +20,7 @@ abbrev pub reasonIs : Reason → Rules.Reason
 reasonIs Torn = Rules.torn
 reasonIs Overtaken = Rules.overtaken
 reasonIs Spent = Rules.spent
+reasonIs GaveUp = Rules.gaveUp
 
 -- The rules' outcome.
 abbrev pub outcomeIs : Outcome → Rules.Outcome ℕ

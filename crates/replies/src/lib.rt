@@ -10,6 +10,7 @@ pub enum Reason {
     Torn,
     Overtaken,
     Spent,
+    GaveUp,
 }
 
 // What a step that is taken comes to.
@@ -75,6 +76,7 @@ pub fn reason_number(reason: Reason) -> u32
         Reason::Torn => 1,
         Reason::Overtaken => 2,
         Reason::Spent => 3,
+        Reason::GaveUp => 5,
     }
 }
 

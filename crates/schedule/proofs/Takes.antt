@@ -11,7 +11,7 @@ use lib.ListN.{length, drop, length-drop}
 use lib.Seq.{getD-drop}
 use borrow.Author.Tests.{le-leb, lt-leb, lt-ltb, le-ltb}
 use Rattle.rules.specs.steps.Replies.{usedUp, unknownStep}
-use Rattle.rules.specs.steps.Codes.{begin, try, read, write, Kind, known, unknown, plainSheet}
+use Rattle.rules.specs.steps.Codes.{begin, try, giveUp, read, write, Kind, known, unknown, plainSheet}
 use Rattle.rules.specs.steps.Checks.{firstHit}
 use Rattle.schedule.specs.Bytes.{byteAt, shortAt, longAt}
 use Rattle.schedule.specs.Scripts.{ScriptStep, valueLong, valueBehind}
@@ -25,6 +25,7 @@ use Rattle.schedule.proofs.Wholes.{takes-none, code-there, some-left, k
 no-value : (kind : Kind) (bytes : List ℕ) → valueLong kind < 4 → 0 ≡ valueBehind kind bytes
 no-value (known begin) bytes h = refl
 no-value (known try) bytes h = refl
+no-value (known giveUp) bytes h = refl
 no-value (known (read x)) bytes h = refl
 no-value (known (write x)) bytes h = absurd (omega arith)
 no-value unknown bytes h = refl
@@ -33,6 +34,7 @@ no-value unknown bytes h = refl
 write-value : (kind : Kind) (bytes : List ℕ) → 4 ≤ valueLong kind → longAt bytes 1 ≡ valueBehind kind bytes
 write-value (known begin) bytes h = absurd (omega arith)
 write-value (known try) bytes h = absurd (omega arith)
+write-value (known giveUp) bytes h = absurd (omega arith)
 write-value (known (read x)) bytes h = absurd (omega arith)
 write-value (known (write x)) bytes h = refl
 write-value unknown bytes h = absurd (omega arith)

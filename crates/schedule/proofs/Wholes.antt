@@ -9,7 +9,7 @@ use native.Mathlib.Omega.{arith}
 use lib.ListN.{length, getD, drop, length-drop, drop-of-length-le}
 use lib.Seq.{getD-drop, drop-drop}
 use Rattle.rules.specs.steps.Tables.{isFound}
-use Rattle.rules.specs.steps.Codes.{begin, try, read, write, Kind, known, unknown, plainSheet}
+use Rattle.rules.specs.steps.Codes.{begin, try, giveUp, read, write, Kind, known, unknown, plainSheet}
 use Rattle.rules.specs.steps.Checks.{isUnknown}
 use Rattle.rules.proofs.steps.Tables.{both-ways}
 use Rattle.schedule.specs.Bytes.{byteAt}
@@ -24,6 +24,7 @@ pub takes-none : (kind : Kind) → stepBytes kind ≡ 0 → isUnknown kind ≡ t
 takes-none unknown e = refl
 takes-none (known begin) e = absurd (omega arith)
 takes-none (known try) e = absurd (omega arith)
+takes-none (known giveUp) e = absurd (omega arith)
 takes-none (known (read x)) e = absurd (omega arith)
 takes-none (known (write x)) e = absurd (omega arith)
 

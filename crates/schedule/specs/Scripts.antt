@@ -4,7 +4,7 @@ use mathlib.Core.Bool.{Bool}
 use mathlib.Core.List.{List, [], _∷_}
 use mathlib.Core.Option.{Option, none, some}
 use Rattle.rules.specs.steps.Tables.{if_then_else_, isFound}
-use Rattle.rules.specs.steps.Codes.{begin, try, read, write, Kind, known, unknown, plainSheet}
+use Rattle.rules.specs.steps.Codes.{begin, try, giveUp, read, write, Kind, known, unknown, plainSheet}
 use Rattle.rules.specs.steps.Checks.{isUnknown}
 use Rattle.schedule.specs.Bytes.{byteAt, longAt}
 
@@ -17,6 +17,7 @@ pub record ScriptStep : Type 0 where
 abbrev pub valueLong : Kind → ℕ
 valueLong (known begin) = 0
 valueLong (known try) = 0
+valueLong (known giveUp) = 0
 valueLong (known (read x)) = 0
 valueLong (known (write x)) = 4
 valueLong unknown = 0
@@ -25,6 +26,7 @@ valueLong unknown = 0
 abbrev pub valueBehind : Kind → List ℕ → ℕ
 valueBehind (known begin) bytes = 0
 valueBehind (known try) bytes = 0
+valueBehind (known giveUp) bytes = 0
 valueBehind (known (read x)) bytes = 0
 valueBehind (known (write x)) bytes = longAt bytes 1
 valueBehind unknown bytes = 0

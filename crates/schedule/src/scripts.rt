@@ -21,6 +21,7 @@ fn step_bytes(code: u8) -> usize
     match checks::kind_of(code as u32) {
         Kind::Begin => 1,
         Kind::Try => 1,
+        Kind::GiveUp => 1,
         Kind::Read(_) => 1,
         Kind::Write(_) => 5,
         Kind::Unknown => 0,

@@ -44,6 +44,7 @@ module _ {words : List ℕ} {at handler : ℕ} {counts : Counts} (to : CountsTo 
     torn = room 2 (omega arith);
     overtaken = room 3 (omega arith);
     spent = room 4 (omega arith);
+    givenUp = room 5 (omega arith);
   }
     where
       room : (k : ℕ) → k < columns → inColumn counts k < 4294967295

@@ -8,7 +8,7 @@ use mathlib.Core.List.{List, [], _∷_}
 use lib.Dec.{eqb, leb}
 use borrow.Author.Tests.{eqb-true, eqb-false}
 use Rattle.rules.specs.steps.Tables.{if_then_else_, put}
-use Rattle.rules.specs.steps.Codes.{Step, begin, try, read, write, known}
+use Rattle.rules.specs.steps.Codes.{Step, begin, try, giveUp, read, write, known}
 use Rattle.rules.specs.steps.Replies.{Refusal, noHandler, usedUp}
 use Rattle.rules.specs.steps.Register.{Setting, Cell, Handler, Register, hasOpen, withHandler, idle, fresh}
 use Rattle.rules.specs.steps.Given.{phaseFor}
@@ -25,13 +25,13 @@ use Rattle.schedule.specs.Sound.{orderIn}
 use Rattle.schedule.specs.Scripts.{ScriptStep}
 use Rattle.schedule.specs.Admitting.{Admission, admissionOf}
 use Rattle.runs.specs.ByRules.{RunState, nextAsked, ordered, runFrom, started, playedBy, runOf}
-use Rattle.counts.specs.Counting.{column, begun, committed, torn, overtaken, spent, raisedBy, raised, isIn, adds}
+use Rattle.counts.specs.Counting.{column, begun, committed, torn, overtaken, spent, gaveUp, raisedBy, raised, isIn, adds}
 use Rattle.sheets.specs.Sheets.{raisedFor, raises, countIn}
 use Rattle.sheets.specs.Files.{replies, openAtEnd}
 
 -- The counts of transactions that ended, by a commit or by an abort.
 abbrev pub ended : (ℕ → ℕ) → ℕ
-ended count = count (column committed) + (count (column torn) + (count (column overtaken) + count (column spent)))
+ended count = count (column committed) + (count (column torn) + (count (column overtaken) + (count (column spent) + count (column gaveUp))))
 
 -- What was begun and what was open before comes to what was ended and what is open afterwards.
 abbrev pub Balanced : (ℕ → ℕ) → ℕ → ℕ → Type 0
@@ -62,6 +62,7 @@ module _ (S : Setting ℕ) (r : Register ℕ) (i : ℕ) where
   step-balances : (s : Step) (v : ℕ) → hasOpen handler ≡ phaseFor s → Balances s (step S r i s v)
   unfolding step raisedBy isIn Figure.begun wrote taken aborting committing idle
   step-balances begin v phase = rw phase (omega (arith, open-here (r .cells) (Figure.begun S handler)))
+  step-balances giveUp v phase = rw phase (omega (arith, open-here (r .cells) (idle S (handler .numbers))))
   step-balances (write x) v phase = rw phase (omega (arith, open-here (r .cells) (wrote handler x v)))
   step-balances (read x) v phase = reading-cases S r i handler (Balances (read x)) x
       (λ copied. omega arith)

@@ -51,4 +51,5 @@ begun-balances files handler inside =
       count 2 (omega arith),
       count 3 (omega arith),
       count 4 (omega arith),
+      count 5 (omega arith),
     )

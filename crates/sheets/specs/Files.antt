@@ -10,7 +10,7 @@ use Rattle.rules.specs.steps.Replies.{Refusal}
 use Rattle.rules.specs.steps.Register.{hasOpen}
 use Rattle.layout.specs.Rows.{row}
 use Rattle.runs.specs.ByRules.{Played, ran, runOf}
-use Rattle.counts.specs.Counting.{column, begun, committed, torn, overtaken, spent}
+use Rattle.counts.specs.Counting.{column, begun, committed, torn, overtaken, spent, gaveUp}
 use Rattle.sheets.specs.Sheets.{countIn, linesOf, sheetLong, columns, counted, addRefusal, AddCall, adding}
 
 -- Adding a file to a sheet.
@@ -67,7 +67,8 @@ abbrev pub BegunBalances : Type 0
 BegunBalances = (files : List (List ℕ)) (handler : ℕ) → handler < 16
     → let sheet = afterFiles emptySheet files in
     let count : ℕ → ℕ = λ k. counted sheet handler k in
-    count (column begun) ≡ count (column committed) + (count (column torn) + (count (column overtaken) + count (column spent)))
+    count (column begun)
+    ≡ count (column committed) + (count (column torn) + (count (column overtaken) + (count (column spent) + count (column gaveUp))))
     + total (openAtEnd handler) (runsOf emptySheet files)
 
 -- NOTHING WRAPS: a file that is not refused leaves each count below 2^32.

@@ -41,11 +41,11 @@ linesOf (Played.refused refusal) = []
 
 -- The counts of a handler.
 abbrev pub columns : ℕ
-columns = 5
+columns = 6
 
 -- The words of a sheet: a row for each of 16 handlers, however many a file has.
 abbrev pub sheetLong : ℕ
-sheetLong = 80
+sheetLong = 96
 
 -- Where a handler's count in a column stands.
 abbrev pub countAt : ℕ → ℕ → ℕ

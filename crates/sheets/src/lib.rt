@@ -53,6 +53,7 @@ fn counts_at(sheet: &[u32], at: usize) -> Counts
         torn: sheet[at + places::TORN],
         overtaken: sheet[at + places::OVERTAKEN],
         spent: sheet[at + places::SPENT],
+        given_up: sheet[at + places::GAVE_UP],
     }
 }
 
@@ -66,6 +67,7 @@ fn put_counts(sheet: &mut [u32], at: usize, counts: Counts)
     sheet[at + places::TORN] = counts.torn;
     sheet[at + places::OVERTAKEN] = counts.overtaken;
     sheet[at + places::SPENT] = counts.spent;
+    sheet[at + places::GAVE_UP] = counts.given_up;
 }
 
 // Counts the answer to a handler's step; a handler that no register has, has no row.

@@ -6,6 +6,7 @@ mod store;
 mod tries;
 
 pub use single::begin;
+pub use single::give_up;
 pub use single::is_open;
 pub use single::read;
 pub use single::write;

@@ -1,4 +1,4 @@
-// Begin, write and read: each changes one handler's block, a part in the middle of the body, and no word outside it.
+// Begin, write, read and give up: each changes one handler's block, a part in the middle of the body, and no word outside it.
 ghost use mathlib.Core.Path.{_≡_};
 ghost use Rattle.rules.specs.steps.Codes as Codes;
 ghost use Rattle.rules.specs.steps.Register.{hasOpen};
@@ -9,6 +9,7 @@ ghost use Rattle.steps.specs.Takes.{Seated, Ready, Unread, Takes};
 use places::block_at;
 use places::cell_at;
 use replies::Outcome;
+use replies::Reason;
 
 // Whether the handler's transaction is open.
 pub fn is_open(body: &[u32], m: usize, n: usize, i: usize) -> bool
@@ -29,6 +30,18 @@ pub fn begin(body: &mut [u32], m: usize, n: usize, i: usize)
     let start = span.start;
     let end = span.end;
     block::begin(&mut body[start..end], m);
+}
+
+// A give up: the transaction is ended as any abort ends it.
+pub fn give_up(body: &mut [u32], m: usize, n: usize, i: usize) -> Outcome
+    requires { ⌜ Ready m n (now body) i Codes.giveUp ⌝ }
+    ensures { λ r. ⌜ Takes m n (now (body .entry)) i Codes.giveUp 0 (outcomeIs r) (now (body .exit)) ⌝ }
+{
+    let span = block_at(m, i);
+    let start = span.start;
+    let end = span.end;
+    block::rest(&mut body[start..end], m);
+    Outcome::Aborted(Reason::GaveUp)
 }
 
 // A write of cell x.

@@ -11,24 +11,24 @@ line letters = ascii letters ++ newline
 
 -- The words of a sheet that ends behind the second handler's begun transactions.
 abbrev pub smallSheet : List ℕ
-smallSheet = 12 ∷ 7 ∷ 3 ∷ 0 ∷ 1 ∷ 105 ∷ []
+smallSheet = 12 ∷ 7 ∷ 3 ∷ 0 ∷ 1 ∷ 2 ∷ 105 ∷ []
 
 -- What is printed of it.
 unfoldable pub smallText : List ℕ
 smallText =
-    line "handler 0 begun 12 committed 7 abort1 3 abort2 0 abort3 1"
-    ++ line "handler 1 begun 105 committed 0 abort1 0 abort2 0 abort3 0"
-    ++ line "handler 2 begun 0 committed 0 abort1 0 abort2 0 abort3 0"
-    ++ line "handler 3 begun 0 committed 0 abort1 0 abort2 0 abort3 0"
-    ++ line "handler 4 begun 0 committed 0 abort1 0 abort2 0 abort3 0"
-    ++ line "handler 5 begun 0 committed 0 abort1 0 abort2 0 abort3 0"
-    ++ line "handler 6 begun 0 committed 0 abort1 0 abort2 0 abort3 0"
-    ++ line "handler 7 begun 0 committed 0 abort1 0 abort2 0 abort3 0"
-    ++ line "handler 8 begun 0 committed 0 abort1 0 abort2 0 abort3 0"
-    ++ line "handler 9 begun 0 committed 0 abort1 0 abort2 0 abort3 0"
-    ++ line "handler 10 begun 0 committed 0 abort1 0 abort2 0 abort3 0"
-    ++ line "handler 11 begun 0 committed 0 abort1 0 abort2 0 abort3 0"
-    ++ line "handler 12 begun 0 committed 0 abort1 0 abort2 0 abort3 0"
-    ++ line "handler 13 begun 0 committed 0 abort1 0 abort2 0 abort3 0"
-    ++ line "handler 14 begun 0 committed 0 abort1 0 abort2 0 abort3 0"
-    ++ line "handler 15 begun 0 committed 0 abort1 0 abort2 0 abort3 0"
+    line "handler 0 begun 12 committed 7 abort1 3 abort2 0 abort3 1 abort5 2"
+    ++ line "handler 1 begun 105 committed 0 abort1 0 abort2 0 abort3 0 abort5 0"
+    ++ line "handler 2 begun 0 committed 0 abort1 0 abort2 0 abort3 0 abort5 0"
+    ++ line "handler 3 begun 0 committed 0 abort1 0 abort2 0 abort3 0 abort5 0"
+    ++ line "handler 4 begun 0 committed 0 abort1 0 abort2 0 abort3 0 abort5 0"
+    ++ line "handler 5 begun 0 committed 0 abort1 0 abort2 0 abort3 0 abort5 0"
+    ++ line "handler 6 begun 0 committed 0 abort1 0 abort2 0 abort3 0 abort5 0"
+    ++ line "handler 7 begun 0 committed 0 abort1 0 abort2 0 abort3 0 abort5 0"
+    ++ line "handler 8 begun 0 committed 0 abort1 0 abort2 0 abort3 0 abort5 0"
+    ++ line "handler 9 begun 0 committed 0 abort1 0 abort2 0 abort3 0 abort5 0"
+    ++ line "handler 10 begun 0 committed 0 abort1 0 abort2 0 abort3 0 abort5 0"
+    ++ line "handler 11 begun 0 committed 0 abort1 0 abort2 0 abort3 0 abort5 0"
+    ++ line "handler 12 begun 0 committed 0 abort1 0 abort2 0 abort3 0 abort5 0"
+    ++ line "handler 13 begun 0 committed 0 abort1 0 abort2 0 abort3 0 abort5 0"
+    ++ line "handler 14 begun 0 committed 0 abort1 0 abort2 0 abort3 0 abort5 0"
+    ++ line "handler 15 begun 0 committed 0 abort1 0 abort2 0 abort3 0 abort5 0"

@@ -2,16 +2,10 @@
 use Prim.Native.Nat.{ℕ}
 use mathlib.Core.List.{List}
 use mathlib.Core.Option.{Option}
-use lib.ListN.{length}
 use Rattle.rules.specs.Promise.{Due, Promise}
 use Rattle.rules.specs.steps.Replies.{Refusal}
-use Rattle.text.specs.Lies.{over}
+use Rattle.text.specs.Lies.{putting}
 use Rattle.summary.specs.Texts.{sheetText, addedText}
-
--- What putting a text into a buffer comes to, as with C's snprintf: the reply is the length of the whole text; the buffer begins with as
--- much of it as fits, and the bytes behind are untouched.
-abbrev pub putting : List ℕ → List ℕ → Due ℕ (List ℕ)
-putting text buffer = record { reply = length text; leaves = over text buffer }
 
 -- What putting a sheet is given: its words, and the lent buffer.
 pub record SheetCall : Type 0 where

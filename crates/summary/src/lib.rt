@@ -15,6 +15,7 @@ ghost use Rattle.summary.specs.Texts.{rowText, longestRow, mostSummary, 
 ghost use Rattle.summary.specs.Putting.{SheetTextPromise, AddedTextPromise};
 use places::BEGUN;
 use places::COMMITTED;
+use places::GAVE_UP;
 use places::OVERTAKEN;
 use places::SPENT;
 use places::TORN;
@@ -23,8 +24,8 @@ use text::put_byte;
 use text::put_number;
 use text::put_text;
 
-// The most bytes that are put of a sheet: 16 lines of 111.
-pub const MOST_SUMMARY: usize = 1776;
+// The most bytes that are put of a sheet: 16 lines of 129.
+pub const MOST_SUMMARY: usize = 2064;
 
 // The longest name of a file, in bytes.
 pub const LONGEST_NAME: usize = 4096;
@@ -84,7 +85,8 @@ fn put_row(sheet: &[u32], handler: usize, buffer: &mut [u8], at: usize) -> usize
     let torn = put_count(sheet, handler, TORN, buffer, committed, b" abort1 ");
     let overtaken = put_count(sheet, handler, OVERTAKEN, buffer, torn, b" abort2 ");
     let spent = put_count(sheet, handler, SPENT, buffer, overtaken, b" abort3 ");
-    put_text(buffer, spent, b"\n")
+    let given_up = put_count(sheet, handler, GAVE_UP, buffer, spent, b" abort5 ");
+    put_text(buffer, given_up, b"\n")
 }
 
 // Puts the lines of a sheet into a buffer: one for each of 16 handlers; how long they are.

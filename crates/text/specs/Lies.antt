@@ -4,12 +4,18 @@ use Prim.Native.Nat.{ℕ, _+_}
 use mathlib.Core.Path.{_≡_}
 use mathlib.Core.List.{List, [], _∷_, _++_}
 use lib.ListN.{length}
+use Rattle.rules.specs.Promise.{Due}
 
 -- The buffer with a text over it.
 unfoldable pub over : List ℕ → List ℕ → List ℕ
 over [] space = space
 over (byte ∷ text) [] = []
 over (byte ∷ text) (was ∷ space) = byte ∷ over text space
+
+-- What putting a text into a lent buffer comes to, as with C's snprintf: the reply is the length of the whole text; the buffer begins with
+-- as much of it as fits, and the bytes behind are untouched.
+abbrev pub putting : List ℕ → List ℕ → Due ℕ (List ℕ)
+putting text buffer = record { reply = length text; leaves = over text buffer }
 
 -- Bytes are put at a place of a buffer, and end at another: as long a text as the place says that lay over the buffer is longer by
 -- these bytes.

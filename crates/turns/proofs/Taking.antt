@@ -2,7 +2,7 @@
 use Prim.Native.Nat.{ℕ}
 use mathlib.Core.Path.{_≡_}
 use mathlib.Core.List.{List}
-use Rattle.rules.specs.steps.Codes.{Step, begin, try, read, Kind, known}
+use Rattle.rules.specs.steps.Codes.{Step, begin, try, giveUp, read, Kind, known}
 use Rattle.rules.specs.steps.Replies.{Outcome}
 use Rattle.rules.specs.steps.Figure.{step}
 use Rattle.steps.specs.Takes.{Ready, Takes}
@@ -28,6 +28,11 @@ module _ {m n i value : ℕ} {words : List ℕ} {outcome : Outcome ℕ} {after :
   pub try-any : Takes m n words i try 0 outcome after → Takes m n words i try value outcome after
   unfolding step
   try-any takes = record { replied = takes .replied; left = takes .left }
+
+  -- A give up takes no value.
+  pub give-up-any : Takes m n words i giveUp 0 outcome after → Takes m n words i giveUp value outcome after
+  unfolding step
+  give-up-any takes = record { replied = takes .replied; left = takes .left }
 
   -- A read takes no value.
   pub read-any : {x : ℕ} → Takes m n words i (read x) 0 outcome after → Takes m n words i (read x) value outcome after

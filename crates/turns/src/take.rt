@@ -18,6 +18,7 @@ pub fn take(body: &mut [u32], m: usize, n: usize, i: usize, kind: Kind, value: u
             Outcome::Done
         }
         Kind::Try => steps::attempt(body, m, n, i),
+        Kind::GiveUp => steps::give_up(body, m, n, i),
         Kind::Read(x) => steps::read(body, m, n, i, x),
         Kind::Write(x) => {
             steps::write(body, m, n, i, x, value);

@@ -2,7 +2,7 @@
 //! can be led to what it is meant to show, and a reader of it needs no order bytes.
 use crate::generate::Parts;
 use crate::register::{self, Reply};
-use crate::steps::{read, write, Step, BEGIN, TRY};
+use crate::steps::{read, write, Step, BEGIN, GIVE_UP, TRY};
 
 /// The schedule up to here: its scripts and its order, the register's words, who has a transaction open, and how many committed.
 #[derive(Clone, Debug)]
@@ -111,6 +111,7 @@ fn step(name: &str) -> Option<Step> {
         ("none", ..) => None,
         ("begin", ..) => Some(BEGIN),
         ("try", ..) => Some(TRY),
+        ("give-up", ..) => Some(GIVE_UP),
         (_, Some(read_cell), _) => Some(read(cell(read_cell))),
         (_, _, Some((written, value))) => Some(write(cell(written), number(value))),
         _ => panic!("{name} is no step"),

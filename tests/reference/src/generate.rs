@@ -22,12 +22,12 @@ fn any_shape(random: &mut Random) -> Parts {
         0..=9 => {
             let length = LONGEST - random.one_of(&[0, 0, 1, 7]);
             let (cells, handlers) = random.one_of(&[(32, 16), (32, 16), (2, 16), (5, 3)]);
-            of_length(random, cells, handlers, length)
+            of_length(random, cells, handlers, length, Some(8))
         }
         10..=59 => {
             let (cells, handlers) = (random.within(1, 32) as u8, random.within(1, 16) as u8);
             let length = random.within(300, 6000) as usize;
-            of_length(random, cells, handlers, length)
+            of_length(random, cells, handlers, length, Some(8))
         }
         60..=149 => {
             let commits = random.one_of(&[2, 63, 64, 64, 65, 65, 66, 130]);
@@ -87,6 +87,7 @@ mod tests {
         let all = [
             "abort 1",
             "abort 2",
+            "abort 5",
             "begin",
             "commit",
             "own write read",

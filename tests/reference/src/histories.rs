@@ -4,7 +4,7 @@ use crate::course::Course;
 use crate::generate::any_write;
 use crate::judge::MOST;
 use crate::random::Random;
-use crate::steps::{read, Step, BEGIN, TRY};
+use crate::steps::{read, Step, BEGIN, GIVE_UP, TRY};
 
 /// A schedule as it grows: the first handlers read over a long time, the others take whole transactions, and the last is silent.
 struct Growing {
@@ -63,7 +63,7 @@ impl Growing {
         random.place(self.readers)
     }
 
-    /// A handler for a whole transaction: now and then a reader that has none open, since it ended in an abort.
+    /// A handler for a whole transaction: now and then a reader that has none open, since its last one is ended.
     fn writer(&self, random: &mut Random) -> usize {
         let reader = self.reader(random);
         match self.course.is_open(reader) || !random.once_in(3) {
@@ -127,10 +127,10 @@ impl Growing {
         self.goes_on(reader, read(self.written.last().copied().unwrap_or(cell)));
     }
 
-    /// What comes next: a reader's step or try, a chain of commits, or one whole transaction.
+    /// What comes next: a reader's step or end, a chain of commits, or one whole transaction.
     fn turn(&mut self, random: &mut Random) {
         match (random.once_in(self.reader_in), random.once_in(10)) {
-            (true, true) => self.goes_on(self.reader(random), TRY),
+            (true, true) => self.goes_on(self.reader(random), random.one_of(&[TRY, TRY, GIVE_UP])),
             (true, false) => {
                 let step = self.access(random);
                 self.goes_on(self.reader(random), step);
@@ -149,8 +149,9 @@ impl Growing {
             (1, _) => self.course.place(random.within(handlers, 255) as u8),
             (2, _) if cells < 32 => self.course.take_all(handler, [read(random.within(cells, 31) as u8)]),
             (3, true) => self.course.take_all(handler, [BEGIN]),
-            (3, false) => self.course.take_all(handler, [TRY]),
+            (3, false) => self.course.take_all(handler, [random.one_of(&[TRY, GIVE_UP])]),
             (4, false) => self.course.take_all(handler, [read(0)]),
+            (7, true) => self.course.take_all(handler, [GIVE_UP]),
             (4..=6, true) if !self.course.would_commit(handler) => self.course.take_all(handler, [TRY]),
             _ => {
                 let step = self.access(random);

@@ -113,6 +113,8 @@ impl History {
             (None, 0) => self.goes_on(handler, Transaction::default(), Reply::Ok),
             (None, _) => Reply::Refused(14),
             (Some(open), 1) => self.attempt(handler, open),
+            // What it read and wrote is forgotten: it is in nobody's past, and no commit is counted.
+            (Some(_), 2) => Reply::Abort(5),
             (Some(open), 32..=63) => self.read(handler, open, code - 32),
             (Some(mut open), _) => {
                 open.written.insert(code - 64, step.value);

@@ -29,6 +29,7 @@ impl Reply {
 enum Step {
     Begin,
     Try,
+    GiveUp,
     Read(usize),
     Write(usize),
 }
@@ -38,6 +39,7 @@ fn decode(code: u32) -> Option<Step> {
     Some(match code {
         0 => Step::Begin,
         1 => Step::Try,
+        2 => Step::GiveUp,
         32..=63 => Step::Read(code as usize - 32),
         64..=95 => Step::Write(code as usize - 64),
         _ => return None,
@@ -115,6 +117,7 @@ pub fn step(words: &mut [u32], handler: u32, code: u32, value: u32) -> Reply {
         (true, Step::Read(x)) => register.read(x),
         (true, Step::Write(x)) => register.write(x, value),
         (true, Step::Try) => register.attempt(),
+        (true, Step::GiveUp) => register.give_up(),
     }
 }
 
@@ -222,6 +225,12 @@ impl Open<'_> {
         self.end();
         Reply::Commit
     }
+
+    /// Give up: the transaction is ended, whatever it read and wrote; cells and the handler's numbers stay.
+    fn give_up(&mut self) -> Reply {
+        self.end();
+        Reply::Abort(5)
+    }
 }
 
 #[cfg(test)]
@@ -251,5 +260,38 @@ mod tests {
         use Reply::*;
         assert_eq!(replies, [Ok, Value(0), Ok, Ok, Ok, Commit, Abort(1)]);
         assert_eq!(words[2..8], [5, 1, 1, 7, 1, 1]);
+    }
+
+    #[test]
+    fn given_up() {
+        use Reply::*;
+        let before = [(0, 0, 0), (0, 65, 3), (0, 1, 0), (1, 0, 0), (1, 64, 5), (1, 1, 0)];
+        let steps = [&before[..], &[(0, 0, 0), (0, 32, 0), (0, 65, 7), (0, 2, 0), (0, 2, 0), (0, 1, 0)]].concat();
+        let (replies, words) = run(2, 2, &steps);
+        assert_eq!(replies[6..], [Ok, Value(5), Ok, Abort(5), Refused(14), Refused(14)]);
+        // Every word is as it was before: the cells, and the handler's numbers, though the transaction has read a newer version.
+        assert_eq!(words, run(2, 2, &before).1);
+    }
+
+    #[test]
+    fn given_up_whatever_became_of_the_reads() {
+        use Reply::*;
+        // The cell that was read is written by another handler, and a written cell's number is spent: no try could commit.
+        let (replies, mut words) = run(2, 2, &[(0, 0, 0), (0, 32, 0), (0, 65, 7), (1, 0, 0), (1, 64, 5), (1, 1, 0)]);
+        assert_eq!(replies[5], Commit);
+        words[7] = 65_535;
+        let cells = words[2..8].to_vec();
+        assert_eq!(step(&mut words.clone(), 0, 1, 0), Abort(2));
+        assert_eq!(step(&mut words, 0, 2, 9), Abort(5));
+        assert_eq!((&words[2..8], &words[8..17]), (&cells[..], &[0; 9][..]));
+    }
+
+    #[test]
+    fn the_order_of_refusals_of_a_give_up() {
+        let (_, mut words) = run(2, 1, &[]);
+        let mut refused = |handler, code| step(&mut words, handler, code, 0);
+        assert_eq!([refused(1, 2), refused(0, 2), refused(16, 3), refused(0, 3)], [11, 14, 15, 15].map(Reply::Refused));
+        words[8] = 2;
+        assert_eq!(step(&mut words, 1, 2, 0), Reply::Refused(10));
     }
 }

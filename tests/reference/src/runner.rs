@@ -76,9 +76,15 @@ mod tests {
     }
 
     #[test]
-    fn read_write_and_try_while_idle_are_14_and_use_the_step_up() {
-        let expected = ["0 32 refused 14", "0 64 refused 14", "0 1 refused 14", "0 0 ok"];
-        assert_eq!(replies("01 01 000A 0008 0012 0004 20 40 00000009 01 00 00 00 00 00"), expected);
+    fn every_step_but_a_begin_is_14_while_idle_and_is_used_up() {
+        let expected = ["0 32 refused 14", "0 64 refused 14", "0 1 refused 14", "0 2 refused 14", "0 0 ok"];
+        assert_eq!(replies("01 01 000A 0009 0013 0005 20 40 00000009 01 02 00 00 00 00 00 00"), expected);
+    }
+
+    #[test]
+    fn a_give_up_is_abort_5_and_keeps_nothing() {
+        let expected = ["0 0 ok", "0 64 ok", "0 2 abort 5", "0 2 refused 14", "0 0 ok", "0 32 value 0"];
+        assert_eq!(replies("01 01 000A 000A 0014 0006 00 40 00000009 02 02 00 20 00 00 00 00 00 00"), expected);
     }
 
     #[test]
@@ -96,18 +102,18 @@ mod tests {
 
     #[test]
     fn value_bytes_are_no_codes() {
-        assert_eq!(replies("01 01 000A 0007 0011 0003 00 40 02 FF 60 1F 01 00 00 00"), ["0 0 ok", "0 64 ok", "0 1 commit"]);
+        assert_eq!(replies("01 01 000A 0007 0011 0003 00 40 03 FF 60 1F 01 00 00 00"), ["0 0 ok", "0 64 ok", "0 1 commit"]);
     }
 
     #[test]
     fn order_bytes_are_no_codes() {
-        let expected = ["2 - refused 11", "64 - refused 11", "96 - refused 11"];
-        assert_eq!(replies("01 01 000A 0000 000A 0003 02 40 60"), expected);
+        let expected = ["3 - refused 11", "64 - refused 11", "96 - refused 11"];
+        assert_eq!(replies("01 01 000A 0000 000A 0003 03 40 60"), expected);
     }
 
     #[test]
     fn a_refused_file_has_one_line() {
-        assert_eq!(of("01 01 000A 0001 000B 0000 02 00"), "refused 30\n");
-        assert_eq!(of("01 01 000A 0001 000B 0000 02"), "refused 15\n");
+        assert_eq!(of("01 01 000A 0001 000B 0000 03 00"), "refused 30\n");
+        assert_eq!(of("01 01 000A 0001 000B 0000 03"), "refused 15\n");
     }
 }

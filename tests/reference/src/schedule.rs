@@ -60,7 +60,7 @@ fn steps(script: &[u8]) -> Option<Vec<Step>> {
     while let Some((&code, behind)) = rest.split_first() {
         rest = behind;
         let value = match code {
-            0 | 1 | 32..=63 => 0,
+            0..=2 | 32..=63 => 0,
             64..=95 => {
                 let bytes = rest.get(..4)?;
                 rest = &rest[4..];
@@ -172,14 +172,21 @@ mod tests {
         for code in 0..=255u8 {
             let mut file = bytes("01 01 000A 0005 000F 0000").unwrap();
             file.extend([code, 0, 0, 0, 0]);
-            let known = matches!(code, 0 | 1 | 32..=95);
+            let known = matches!(code, 0..=2 | 32..=95);
             assert_eq!(judge(&file).err(), (!known).then_some(15), "{code}");
         }
     }
 
     #[test]
+    fn a_give_up_is_one_byte() {
+        let file = bytes("01 01 000A 0003 000D 0000 00 02 01").unwrap();
+        let codes: Vec<_> = judge(&file).unwrap().scripts[0].iter().map(|step| step.code).collect();
+        assert_eq!(codes, [0, 2, 1]);
+    }
+
+    #[test]
     fn unknown_codes_are_15_in_scripts_never_ordered_too() {
-        assert_eq!(refused("02 01 000E 0001 000F 0001 0010 0001 00 02 00"), Some(15));
+        assert_eq!(refused("02 01 000E 0001 000F 0001 0010 0001 00 03 00"), Some(15));
         assert_eq!(refused("02 01 000E 0000 000E 0001 000F 0000 FF"), Some(15));
     }
 
@@ -193,9 +200,9 @@ mod tests {
 
     #[test]
     fn thirty_anywhere_beats_15_anywhere() {
-        assert_eq!(refused("01 01 000A 0001 000B 0000 02 00"), Some(30));
-        assert_eq!(refused("01 21 000A 0001 000B 0000 02"), Some(30));
-        let mut file = bytes("01 01 000A 0001 000B FFF5 02").unwrap();
+        assert_eq!(refused("01 01 000A 0001 000B 0000 03 00"), Some(30));
+        assert_eq!(refused("01 21 000A 0001 000B 0000 03"), Some(30));
+        let mut file = bytes("01 01 000A 0001 000B FFF5 03").unwrap();
         file.resize(65_536, 0);
         assert_eq!(judge(&file).err(), Some(30));
         file.pop();

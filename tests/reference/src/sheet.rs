@@ -9,8 +9,8 @@ use crate::steps::BEGIN;
 /// The handlers of a sheet, however many a file has.
 pub const HANDLERS: usize = 16;
 
-/// The counts of a handler: begun, committed, abort 1, abort 2, abort 3.
-pub const COLUMNS: usize = 5;
+/// The counts of a handler: begun, committed, abort 1, abort 2, abort 3, abort 5.
+pub const COLUMNS: usize = 6;
 
 /// The words of a sheet: a row for each handler. Words behind them are never changed.
 pub const WORDS: usize = HANDLERS * COLUMNS;
@@ -23,7 +23,9 @@ fn column(line: &Line) -> Option<usize> {
     match (line.code, line.reply) {
         (Some(code), Reply::Ok) if code == BEGIN.code => Some(0),
         (_, Reply::Commit) => Some(1),
-        (_, Reply::Abort(reason)) => Some(1 + reason as usize),
+        (_, Reply::Abort(reason @ 1..=3)) => Some(1 + reason as usize),
+        // There is no abort 4, so that abort 5 follows abort 3.
+        (_, Reply::Abort(5)) => Some(5),
         _ => None,
     }
 }
@@ -54,8 +56,9 @@ pub fn said(added: Result<(), u32>) -> String {
 /// What is printed of a sheet: a line for each handler.
 pub fn printed(sheet: &[u32; WORDS]) -> String {
     let line = |(handler, row): (usize, &[u32])| {
-        let [begun, committed, torn, overtaken, spent] = row else { unreachable!("a row has five counts") };
-        format!("handler {handler} begun {begun} committed {committed} abort1 {torn} abort2 {overtaken} abort3 {spent}\n")
+        let [begun, committed, torn, overtaken, spent, gave_up] = row else { unreachable!("a row has six counts") };
+        let aborts = format!("abort1 {torn} abort2 {overtaken} abort3 {spent} abort5 {gave_up}");
+        format!("handler {handler} begun {begun} committed {committed} {aborts}\n")
     };
     sheet.chunks(COLUMNS).enumerate().map(line).collect()
 }
@@ -95,25 +98,31 @@ mod tests {
 
     #[test]
     fn the_published_listing() {
-        assert_eq!(of(LISTING), sheet(&[(0, [1, 0, 1, 0, 0]), (1, [1, 1, 0, 0, 0])]));
+        assert_eq!(of(LISTING), sheet(&[(0, [1, 0, 1, 0, 0, 0]), (1, [1, 1, 0, 0, 0, 0])]));
     }
 
     #[test]
     fn a_stale_read_is_counted_as_abort_2() {
         let steps = "0:begin,read0 1:begin,write0=5,try 0:try,begin,try";
-        assert_eq!(following(2, 2, steps), sheet(&[(0, [2, 1, 0, 1, 0]), (1, [1, 1, 0, 0, 0])]));
+        assert_eq!(following(2, 2, steps), sheet(&[(0, [2, 1, 0, 1, 0, 0]), (1, [1, 1, 0, 0, 0, 0])]));
+    }
+
+    #[test]
+    fn a_give_up_is_counted_as_abort_5() {
+        let steps = "0:give-up,begin,read0,write0=5,give-up,give-up,begin,give-up,begin,try 1:begin,read0,try";
+        assert_eq!(following(2, 2, steps), sheet(&[(0, [3, 1, 0, 0, 0, 2]), (1, [1, 1, 0, 0, 0, 0])]));
     }
 
     #[test]
     fn an_open_transaction_is_begun_and_nothing_more() {
-        assert_eq!(following(2, 16, "15:begin,write0=5,read0"), sheet(&[(15, [1, 0, 0, 0, 0])]));
+        assert_eq!(following(2, 16, "15:begin,write0=5,read0"), sheet(&[(15, [1, 0, 0, 0, 0, 0])]));
     }
 
     #[test]
     fn refused_steps_count_nothing() {
         // A try while idle is 14, a second begin 13, a cell that is not there 12; then an order place of nobody and one without a step.
         let steps = "0:try,begin,begin,read9,write9=1,try,try 7:none 0:none";
-        assert_eq!(following(1, 1, steps), sheet(&[(0, [1, 1, 0, 0, 0])]));
+        assert_eq!(following(1, 1, steps), sheet(&[(0, [1, 1, 0, 0, 0, 0])]));
     }
 
     #[test]
@@ -123,7 +132,7 @@ mod tests {
         for _ in 0..3 {
             add(&mut words, &bytes(LISTING).unwrap()).unwrap();
         }
-        (expected[0], expected[2], expected[5], expected[6]) = (10, 10, 10, 10);
+        (expected[0], expected[2], expected[6], expected[7]) = (10, 10, 10, 10);
         assert_eq!(words, expected);
     }
 
@@ -131,7 +140,7 @@ mod tests {
     fn a_refused_file_adds_nothing_and_the_files_before_it_stay_counted() {
         let mut words = of(LISTING);
         let before = words;
-        assert_eq!(add(&mut words, &bytes("01 01 000A 0003 000D 0003 00 01 02 00 00 00").unwrap()), Err(15));
+        assert_eq!(add(&mut words, &bytes("01 01 000A 0003 000D 0003 00 01 03 00 00 00").unwrap()), Err(15));
         assert_eq!(add(&mut words, &bytes("01 01 000A 0002 000D 0002 00 01 00 00").unwrap()), Err(30));
         assert_eq!(words, before);
     }
@@ -161,7 +170,7 @@ mod tests {
 
     #[test]
     fn the_first_refusal_in_order_is_given() {
-        let (sound, unknown, gap) = (bytes(LISTING).unwrap(), bytes("01 01 000A 0001 000B 0000 02").unwrap(), [1, 1, 0, 11]);
+        let (sound, unknown, gap) = (bytes(LISTING).unwrap(), bytes("01 01 000A 0001 000B 0000 03").unwrap(), [1, 1, 0, 11]);
         for length in 0..WORDS {
             let mut short = vec![u32::MAX; length];
             assert_eq!([&sound[..], &unknown, &gap].map(|file| add(&mut short, file)), [Err(21); 3]);
@@ -173,12 +182,12 @@ mod tests {
 
     #[test]
     fn a_sheet_is_printed_line_by_line() {
-        let text = printed(&sheet(&[(0, [1, 2, 3, 4, 5]), (15, [0, 0, 0, 0, u32::MAX])]));
+        let text = printed(&sheet(&[(0, [1, 2, 3, 4, 5, 6]), (15, [0, 0, 0, 0, 0, u32::MAX])]));
         let lines: Vec<_> = text.lines().collect();
         assert_eq!(lines.len(), HANDLERS);
-        assert_eq!(lines[0], "handler 0 begun 1 committed 2 abort1 3 abort2 4 abort3 5");
-        assert_eq!(lines[9], "handler 9 begun 0 committed 0 abort1 0 abort2 0 abort3 0");
-        assert_eq!(lines[15], "handler 15 begun 0 committed 0 abort1 0 abort2 0 abort3 4294967295");
+        assert_eq!(lines[0], "handler 0 begun 1 committed 2 abort1 3 abort2 4 abort3 5 abort5 6");
+        assert_eq!(lines[9], "handler 9 begun 0 committed 0 abort1 0 abort2 0 abort3 0 abort5 0");
+        assert_eq!(lines[15], "handler 15 begun 0 committed 0 abort1 0 abort2 0 abort3 0 abort5 4294967295");
         assert_eq!([said(Ok(())), said(Err(41))], ["ok", "refused 41"]);
     }
 }

@@ -10,6 +10,7 @@ pub struct Step {
 
 pub const BEGIN: Step = Step { code: 0, value: 0 };
 pub const TRY: Step = Step { code: 1, value: 0 };
+pub const GIVE_UP: Step = Step { code: 2, value: 0 };
 
 /// A read of a cell.
 pub fn read(cell: u8) -> Step {

@@ -5,7 +5,7 @@ use native.Mathlib.Omega.{arith}
 use borrow.Author.Needs.{needs}
 use Rattle.rules.specs.steps.Codes.{Kind, plainSheet}
 use Rattle.checks.specs.Promises.{KindPromise}
-use Rattle.checks.proofs.Codes.{code-begin, code-try, code-read, code-write, code-between, code-beyond}
+use Rattle.checks.proofs.Codes.{code-begin, code-try, code-give-up, code-read, code-write, code-between, code-beyond}
 use Rattle.checks.proofs.kind_of.Statement.{statement}
 use Rattle.checks.proofs.kind_of.Tie as tie
 
@@ -21,6 +21,7 @@ kind-of-spec =
     (λ c. search needs)
     (λ c. says (code-begin _ (c .match .keys1)))
     (λ c. says (code-try _ (c .match .keys2)))
+    (λ c. says (code-give-up _ (c .match .keys3)))
     (λ c. says (code-read (c .before .before .before .args .code) (omega arith) (omega arith)))
     (λ c. says (code-write (c .before .before .before .before .args .code) (omega arith) (omega arith)))
     (λ c. says (code-between (c .before .before .args .code) (omega arith) (omega arith)))

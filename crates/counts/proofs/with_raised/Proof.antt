@@ -19,4 +19,6 @@ with-raised-spec =
     (λ c. omega (arith, one-at-most (c .before .one-at4 .ensures)))
     (λ c κs. search needs)
     (λ c. omega (arith, one-at-most (c .before .one-at5 .ensures)))
-    (λ c. record { raises = each-column _ (cc) (cc) (cc) (cc) (cc) }))
+    (λ c κs. search needs)
+    (λ c. omega (arith, one-at-most (c .before .one-at6 .ensures)))
+    (λ c. record { raises = each-column _ (cc) (cc) (cc) (cc) (cc) (cc) }))

@@ -32,6 +32,10 @@ begins i = record { handler = i; code = 0; value = 0 }
 abbrev pub tries : ℕ → Ask ℕ
 tries i = record { handler = i; code = 1; value = 0 }
 
+-- to give up,
+abbrev pub gives : ℕ → Ask ℕ
+gives i = record { handler = i; code = 2; value = 0 }
+
 -- to read the cell x,
 abbrev pub reads : ℕ → ℕ → Ask ℕ
 reads i x = record { handler = i; code = 32 + x; value = 0 }

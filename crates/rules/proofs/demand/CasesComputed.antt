@@ -10,7 +10,7 @@ use Rattle.rules.specs.history.History.{Deed, look, set, Commit, Abort, 
 use Rattle.rules.specs.history.Past.{hasReadFrom, inPast, upTo}
 use Rattle.rules.specs.history.Replay.{after, replay}
 use Rattle.rules.specs.demand.Demand.{Ask, reportedTo}
-use Rattle.rules.proofs.demand.CaseHistories.{two, begins, tries, reads, writes, reached, commitsAfter, answerTo, isFirst}
+use Rattle.rules.proofs.demand.CaseHistories.{two, begins, tries, gives, reads, writes, reached, commitsAfter, answerTo, isFirst}
 use Rattle.rules.proofs.demand.CaseHistories.{Answered, overtakes}
 
 -- ── K8 ────────────────────────────────────────────────────────────────
@@ -197,6 +197,26 @@ abortedRead-past = refl
 pub abortedRead-answered : Answered abortedRead 1 (value 6)
 unfolding isFirst reached answerTo abortedRead
 abortedRead-answered = record { first = refl; reply = refl; judged = refl }
+
+-- Handler 2 reads cell 0 and gives up; then it commits 1 := 6, blind.
+unfoldable pub givenUp : List (Ask ℕ)
+unfolding overtakes
+givenUp = overtakes ++ (begins 2 ∷ reads 2 0 ∷ gives 2 ∷ begins 2 ∷ writes 2 1 6 ∷ tries 2 ∷ [])
+
+-- The transaction that gave up is aborted, and had read handler 1's version.
+pub givenUp-aborts : reached givenUp .history .aborts ≡ record { handler = 2; deeds = look 0 1 5 ∷ []; stood = 1 } ∷ []
+unfolding reached givenUp
+givenUp-aborts = refl
+
+-- What it had read is not in the past of its handler's next.
+pub givenUp-past : upTo (commitsAfter givenUp) 2 1 ≡ false
+unfolding reached givenUp upTo inPast hasReadFrom
+givenUp-past = refl
+
+-- Handler 0, which reads cell 1, is answered with its value.
+pub givenUp-answered : Answered givenUp 1 (value 6)
+unfolding isFirst reached answerTo givenUp
+givenUp-answered = record { first = refl; reply = refl; judged = refl }
 
 -- Handler 2 reads cell 0 and commits 1 := 6, as in K8; handler 3 overwrites that with 1 := 7, blind, and hides its past.
 unfoldable pub blind : List (Ask ℕ)

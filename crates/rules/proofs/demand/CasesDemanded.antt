@@ -26,7 +26,7 @@ use Rattle.rules.proofs.demand.CasesComputed.{k8, k8-answered, k9, k9-a
 use Rattle.rules.proofs.demand.CasesComputed.{k10-overtaken, k10-tried, k10-commits, k10-aborted, k10-history, k11}
 use Rattle.rules.proofs.demand.CasesComputed.{k11-answered, k11-first, k11-second, readOnly, readOnly-answered}
 use Rattle.rules.proofs.demand.CasesComputed.{pastOfPast, pastOfPast-answered, abortedRead, abortedRead-answered}
-use Rattle.rules.proofs.demand.CasesComputed.{blind, blind-answered}
+use Rattle.rules.proofs.demand.CasesComputed.{givenUp, givenUp-answered, blind, blind-answered}
 
 -- The writer of x, or a commit in its past, wrote a later version than one that handler 0 has read by then.
 abbrev pub TearsAfter : List (Ask ℕ) → ℕ → Type 0
@@ -114,6 +114,10 @@ pastOfPast-tears = answered-torn pastOfPast 1 pastOfPast-answered
 -- An aborted transaction is in nobody's past.
 pub abortedRead-holds : TearsAfter abortedRead 1 → ⊥
 abortedRead-holds = answered-value abortedRead 1 6 abortedRead-answered
+
+-- So is one that gave up.
+pub givenUp-holds : TearsAfter givenUp 1 → ⊥
+givenUp-holds = answered-value givenUp 1 6 givenUp-answered
 
 -- A blind overwrite hides a past.
 pub blind-holds : TearsAfter blind 1 → ⊥

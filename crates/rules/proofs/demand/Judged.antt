@@ -3,7 +3,7 @@ use Prim.Native.Nat.{ℕ}
 use mathlib.Core.Path.{_≡_, refl, sym, ap, _∙_, fun-ext, subst}
 use mathlib.Core.Bool.{true, false, _||_}
 use Rattle.rules.specs.steps.Tables.{someBelow}
-use Rattle.rules.specs.steps.Codes.{Step, begin, try, read, write}
+use Rattle.rules.specs.steps.Codes.{Step, begin, try, giveUp, read, write}
 use Rattle.rules.specs.steps.Replies.{value, Refusal, Reply}
 use Rattle.rules.specs.steps.Register.{Setting, Register}
 use Rattle.rules.specs.steps.Checks.{firstHit}
@@ -77,6 +77,7 @@ module _ {W : Type 0} (S : Setting W) (r : Register W) (h : History W) (g : Inva
   unfolding step answer answerRead answerTry orAborted firstHit
   answer-is i begin v phase = refl
   answer-is i (write x) v phase = refl
+  answer-is i giveUp v phase = refl
   answer-is i (read x) v phase =
       reading-cases S r i (r .handlers i) (λ result. result .outcome ≡ answerRead S (h .commits) (h .now i) x) x
       (λ e. rw (sym (has-copy i x) ∙ e) (ap value (g .handlers i .copies x)))

@@ -8,8 +8,8 @@ use mathlib.Core.List.{List}
 use lib.ListN.{length}
 use borrow.Author.Tests.{ne-eqb}
 use Rattle.rules.specs.steps.Tables.{if_then_else_, someBelow}
-use Rattle.rules.specs.steps.Codes.{Step, begin, try, read, write}
-use Rattle.rules.specs.steps.Replies.{torn, overtaken, spent, Outcome, committed, aborted}
+use Rattle.rules.specs.steps.Codes.{Step, begin, try, giveUp, read, write}
+use Rattle.rules.specs.steps.Replies.{torn, overtaken, spent, gaveUp, Outcome, committed, aborted}
 use Rattle.rules.specs.steps.Register.{Setting}
 use Rattle.rules.specs.steps.Checks.{firstHit}
 use Rattle.rules.specs.history.History.{Deed, Commit, History, hasRead, hasWritten, writer}
@@ -38,6 +38,10 @@ module _ {W : Type 0} where
   torn-not-spent : _≡_ {A = Outcome W} (aborted torn) (aborted spent) → ⊥
   torn-not-spent e = let z : _≡_ {A = ℕ} 0 1 = cc in omega arith
 
+  -- nor is abort 5,
+  gave-up-not-spent : _≡_ {A = Outcome W} (aborted gaveUp) (aborted spent) → ⊥
+  gave-up-not-spent e = let z : _≡_ {A = ℕ} 0 1 = cc in omega arith
+
   -- nor is abort 2 or commit,
   try-not-spent : (isStale : Bool) → _≡_ {A = Outcome W} (if isStale then (aborted overtaken) else committed) (aborted spent) → ⊥
   try-not-spent true e = let z : _≡_ {A = ℕ} 0 1 = cc in omega arith
@@ -59,6 +63,7 @@ module _ {W : Type 0} where
   unfolding answer
   never-spent S h i begin short e = ok-no-abort spent e
   never-spent S h i (write x) short e = ok-no-abort spent e
+  never-spent S h i giveUp short e = gave-up-not-spent e
   never-spent S h i (read x) short e = read-not-spent S (h .commits) (h .now i) x e
   never-spent S h i try short e =
       try-not-spent (someBelow (S .cellCount) (stale (h .commits) (h .now i))) (sym (short-try S (h .commits) (h .now i) short) ∙ e)

@@ -4,7 +4,7 @@ use native.Mathlib.Omega.{arith}
 use mathlib.Core.Path.{_≡_, refl, sym, _∙_, subst}
 use mathlib.Core.Bool.{true, false, _||_}
 use mathlib.Core.List.{List, [], _∷_}
-use Rattle.rules.specs.steps.Codes.{Step, begin, try, read, write, Kind, known, unknown}
+use Rattle.rules.specs.steps.Codes.{Step, begin, try, giveUp, read, write, Kind, known, unknown}
 use Rattle.rules.specs.steps.Replies.{Refusal, Reply}
 use Rattle.rules.specs.steps.Register.{Setting, Handler, Register, withHandler}
 use Rattle.rules.specs.steps.Given.{Within, phaseFor, Free}
@@ -141,6 +141,7 @@ module _ {W : Type 0} (S : Setting W) (r : Register W) (h : History W) (i : ℕ)
   step-kept begin v inside phase = doing-kept [] (begun S (r .handlers i))
       (begun-carries S (h .commits) i (h .opened i) (h .now i) (r .handlers i) (kept .invariant .handlers i))
   step-kept try v inside phase = try-kept phase v
+  step-kept giveUp v inside phase = abort-kept
   step-kept (read x) v inside phase = read-kept phase x v inside
   step-kept (write x) v inside phase = doing-kept (set x v ∷ h .now i) (wrote (r .handlers i) x v)
       (wrote-carries S (h .commits) i (h .now i) (r .handlers i) x v inside (holds phase))

@@ -8,7 +8,7 @@ use mathlib.Core.Option.{Option}
 use lib.ListN.{length}
 use lib.Dec.{eqb}
 use Rattle.rules.specs.steps.Tables.{if_then_else_}
-use Rattle.rules.specs.steps.Codes.{Step, begin, try, read, write, Kind, known, unknown}
+use Rattle.rules.specs.steps.Codes.{Step, begin, try, giveUp, read, write, Kind, known, unknown}
 use Rattle.rules.specs.steps.Replies.{Refusal}
 use Rattle.rules.specs.steps.Register.{Setting}
 use Rattle.rules.specs.history.History.{Deed, Commit, History, someLook, hasRead, hasWritten, placeAfter, writerAmong, everyCommit, writer}
@@ -231,6 +231,7 @@ module _ {W : Type 0} {S : Setting W} where
     unfolding answer
     answer-same begin = refl
     answer-same (write x) = refl
+    answer-same giveUp = refl
     answer-same (read x) = answerRead-same (same .commits) (same .now i) x
     answer-same try = answerTry-same (same .commits) (same .now i)
 

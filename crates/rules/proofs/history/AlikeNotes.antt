@@ -4,7 +4,7 @@ use mathlib.Core.Path.{_≡_, refl}
 use mathlib.Core.Bool.{true, false}
 use mathlib.Core.List.{List, [], _∷_}
 use Rattle.rules.specs.steps.Tables.{put}
-use Rattle.rules.specs.steps.Codes.{Step, begin, try, read, write, Kind, known, unknown}
+use Rattle.rules.specs.steps.Codes.{Step, begin, try, giveUp, read, write, Kind, known, unknown}
 use Rattle.rules.specs.steps.Replies.{Outcome, ok, value, committed, aborted, Reply, reported}
 use Rattle.rules.specs.steps.Register.{Setting}
 use Rattle.rules.specs.history.History.{Deed, look, again, set, Commit, Abort, History, someLook, hasWritten, writer}
@@ -70,6 +70,7 @@ module _ {W : Type 0} {S : Setting W} where
     noteOk-same (write x) v = doing-same (deed-same (set x v) (same .now i))
     noteOk-same (read x) v = same
     noteOk-same try v = same
+    noteOk-same giveUp v = same
 
     -- An answer with a value.
     noteValue-same : (step : Step) (v : W)
@@ -79,6 +80,7 @@ module _ {W : Type 0} {S : Setting W} where
     noteValue-same (write x) v = same
     noteValue-same begin v = same
     noteValue-same try v = same
+    noteValue-same giveUp v = same
 
     -- Every outcome.
     outcome-same : (step : Step) (v : W) (outcome : Outcome W) → SameHistory S (note h i step v outcome) (note g i step v outcome)

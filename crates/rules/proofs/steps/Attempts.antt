@@ -7,7 +7,7 @@ use lib.Dec.{eqb, ltb}
 use borrow.Author.Tests.{eqb-true, eqb-false, eq-eqb, ne-eqb, ltb-true, lt-ltb, not-true, not-false}
 use Rattle.rules.specs.steps.Tables.{someBelow}
 use Rattle.rules.specs.steps.Codes.{try, read}
-use Rattle.rules.specs.steps.Replies.{Reason, torn, overtaken, spent, Outcome, committed, aborted}
+use Rattle.rules.specs.steps.Replies.{Reason, torn, overtaken, spent, gaveUp, Outcome, committed, aborted}
 use Rattle.rules.specs.steps.Register.{Setting, Cell, Handler, Register}
 use Rattle.rules.specs.steps.Figure.{joined, isTorn, isOvertaken, isSpent, step}
 use Rattle.rules.specs.steps.Aborts.{Current, Stale, Spent, Roomy, Torn, TryAborted}
@@ -92,16 +92,20 @@ module _ {W : Type 0} (S : Setting W) where
   one-reason : (r : Register W) (h : Handler W) (a b : Reason) → TryAborted S a r h → TryAborted S b r h → a ≡ b
   one-reason r h torn b t u = absurd t
   one-reason r h overtaken torn t u = absurd u
+  one-reason r h gaveUp b t u = absurd t
+  one-reason r h overtaken gaveUp t u = absurd u
   one-reason r h overtaken overtaken t u = refl
   one-reason r h overtaken spent t u = absurd (stale-not-current r h t (u .0))
   one-reason r h spent torn t u = absurd u
   one-reason r h spent overtaken t u = absurd (stale-not-current r h u (t .0))
+  one-reason r h spent gaveUp t u = absurd u
   one-reason r h spent spent t u = refl
 
   -- A try that is current and whose written cells have room is aborted with no reason.
   no-reason : (r : Register W) (h : Handler W) → Current S r h → Roomy S r h → (reason : Reason) → TryAborted S reason r h → ⊥
   unfolding Roomy Spent
   no-reason r h current roomy torn t = t
+  no-reason r h current roomy gaveUp t = t
   no-reason r h current roomy overtaken t = stale-not-current r h t current
   no-reason r h current roomy spent (_, (z, l, written, full)) = roomy z l written full
 
@@ -144,8 +148,8 @@ module _ {W : Type 0} (S : Setting W) where
       ))
       (λ current roomy. (λ e. (current, roomy), λ g. refl))
 
-  -- Property 6, as docs/RULES.md has it: a transaction with an empty read set commits, or is aborted with 3 and has written a cell
-  -- whose number stands at 65,535.
+  -- Property 6, as docs/RULES.md has it, of a try: a transaction with an empty read set commits, or is aborted with 3 and has written a
+  -- cell whose number stands at 65,535.
   pub write-only-commits : (r : Register W) (i : ℕ) (v : W) → ((z : ℕ) → z < S .cellCount → r .handlers i .readSet z ≡ false)
       → (step S r i try v .outcome ≡ committed) ⊎ ((step S r i try v .outcome ≡ aborted spent) × Spent S r (r .handlers i))
   unfolding Stale
@@ -156,6 +160,7 @@ module _ {W : Type 0} (S : Setting W) where
 
       aborts : (reason : Reason) → TryAborted S reason r (r .handlers i) → Ends (aborted reason)
       aborts torn t = absurd t
+      aborts gaveUp t = absurd t
       aborts overtaken (z, l, s, ne) = both-ways s (unread z l)
       aborts spent t = inr (refl, t .1)
 

@@ -7,7 +7,7 @@ use mathlib.Core.Logic.{_↔_, _⊎_, inl, inr, ⊎-elim, ⊎-map}
 use mathlib.Core.Option.{Option, none, some, Option·some-injective, Option·some-ne-none}
 use lib.Dec.{leb, ltb}
 use borrow.Author.Tests.{leb-true, leb-false, le-leb, lt-leb, ltb-true, lt-ltb}
-use Rattle.rules.specs.steps.Codes.{Step, begin, try, read, write, Kind, known, unknown}
+use Rattle.rules.specs.steps.Codes.{Step, begin, try, giveUp, read, write, Kind, known, unknown}
 use Rattle.rules.specs.steps.Replies.{Refusal, notWellFormed, noHandler, noCell, alreadyOpen, notOpen, unknownStep, outOfRange}
 use Rattle.rules.specs.steps.Replies.{tooShort}
 use Rattle.rules.specs.steps.Checks.{Check, _when_, firstHit, Asked, isBeyond, isBegin, stepChecks, inRange, openingChecks}
@@ -39,6 +39,7 @@ none-holds a false checks = (λ e. (refl, e), λ h. h .1)
 beyond-test : (m : ℕ) (s : Step) → Beyond m s → isBeyond m (known s) ≡ true
 beyond-test m begin b = absurd b
 beyond-test m try b = absurd b
+beyond-test m giveUp b = absurd b
 beyond-test m (read x) b = le-leb m x b
 beyond-test m (write x) b = le-leb m x b
 
@@ -46,6 +47,7 @@ beyond-test m (write x) b = le-leb m x b
 within-test : (m : ℕ) (s : Step) → Within m s → isBeyond m (known s) ≡ false
 within-test m begin w = refl
 within-test m try w = refl
+within-test m giveUp w = refl
 within-test m (read x) w = lt-leb m x w
 within-test m (write x) w = lt-leb m x w
 
@@ -53,6 +55,7 @@ within-test m (write x) w = lt-leb m x w
 test-beyond : (m : ℕ) (s : Step) → isBeyond m (known s) ≡ true → Beyond m s
 test-beyond m begin e = both-ways e refl
 test-beyond m try e = both-ways e refl
+test-beyond m giveUp e = both-ways e refl
 test-beyond m (read x) e = leb-true m x e
 test-beyond m (write x) e = leb-true m x e
 
@@ -60,6 +63,7 @@ test-beyond m (write x) e = leb-true m x e
 test-within : (m : ℕ) (s : Step) → isBeyond m (known s) ≡ false → Within m s
 test-within m begin e = tt
 test-within m try e = tt
+test-within m giveUp e = tt
 test-within m (read x) e = leb-false m x e
 test-within m (write x) e = leb-false m x e
 
@@ -103,6 +107,7 @@ module _ (a : Asked) where
       late : (s : Step) → Late s → phased s ≡ some notOpen
       late begin l = absurd l
       late try l = rw o
+      late giveUp l = rw o
       late (read x) l = rw o
       late (write x) l = rw o
 
@@ -114,6 +119,7 @@ module _ (a : Asked) where
       allowed : (s : Step) → a .opened ≡ phaseFor s → phased s ≡ none
       allowed begin o = rw o
       allowed try o = rw o
+      allowed giveUp o = rw o
       allowed (read x) o = rw o
       allowed (write x) o = rw o
 
@@ -123,7 +129,7 @@ module _ (a : Asked) where
   abbrev pub Verdict : Type 0
   Verdict = ((refusal : Refusal) × Given a refusal) ⊎ ((s : Step) × Free a s)
 
-  -- A read, a write or a try of an open handler is free, and of an idle one is given 14.
+  -- A read, a write, a try or a give up of an open handler is free, and of an idle one is given 14.
   late-decides : (s : Step) → Fitting a s → phaseFor s ≡ true → Late s → Verdict
   late-decides s p wanted late = by (a .opened)
       (λ o. inr (s, record { fits = p; phase = o ∙ sym wanted }))
@@ -133,6 +139,7 @@ module _ (a : Asked) where
   phase-decides : (s : Step) → Fitting a s → Verdict
   phase-decides begin p = by (a .opened) (λ o. inl (alreadyOpen, twice p o)) (λ o. inr (begin, record { fits = p; phase = o }))
   phase-decides try p = late-decides try p refl tt
+  phase-decides giveUp p = late-decides giveUp p refl tt
   phase-decides (read x) p = late-decides (read x) p refl tt
   phase-decides (write x) p = late-decides (write x) p refl tt
 

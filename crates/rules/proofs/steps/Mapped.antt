@@ -4,12 +4,12 @@ use mathlib.Core.Path.{_≡_, refl, sym, ap, ap₂, _∙_, fun-ext}
 use mathlib.Core.Bool.{Bool, true, false, _||_}
 use mathlib.Core.Option.{Option, none, some}
 use Rattle.rules.specs.steps.Tables.{if_then_else_, put}
-use Rattle.rules.specs.steps.Codes.{Step, begin, try, read, write}
-use Rattle.rules.specs.steps.Replies.{Reason, Outcome, ok, value, committed, aborted}
+use Rattle.rules.specs.steps.Codes.{Step, begin, try, giveUp, read, write}
+use Rattle.rules.specs.steps.Replies.{Reason, gaveUp, Outcome, ok, value, committed, aborted}
 use Rattle.rules.specs.steps.Register.{Setting, Cell, Handler, Register, withHandler, idle}
 use Rattle.rules.specs.steps.Checks.{firstHit}
 use Rattle.rules.specs.steps.Figure.{Result, joined, taken, wrote, shown, stamped, stored, begun, isTorn, isOvertaken, isSpent}
-use Rattle.rules.specs.steps.Figure.{aborting, committing, unlessAborted, readChecks, tryChecks, firstRead, reading, trying, step}
+use Rattle.rules.specs.steps.Figure.{aborting, committing, endedWith, unlessAborted, readChecks, tryChecks, firstRead, reading, trying, step}
 use Rattle.rules.proofs.steps.Tables.{by, put-map}
 
 module _ {W U : Type 0} (f : W → U) where
@@ -74,12 +74,18 @@ module _ {W U : Type 0} (f : W → U) where
   }
 
   module _ (S : Setting W) (r : Register W) (i : ℕ) where
+    -- A transaction that is ended.
+    ended-mapped : (reason : Reason)
+        → endedWith (mapSetting S) reason (mapRegister r) i (mapHandler (r .handlers i)) ≡ mapResult (endedWith S reason r i (r .handlers i))
+    unfolding aborting idle
+    ended-mapped reason = ap (λ q. record { outcome = aborted reason; after = q }) (with-mapped r i _)
+
     -- Where a check decides.
     unless-mapped : (o : Option Reason) (result : Result W) {mapped : Result U} → mapped ≡ mapResult result
         → unlessAborted (mapSetting S) (mapRegister r) i (mapHandler (r .handlers i)) o mapped ≡ mapResult (unlessAborted S r i (r .handlers i) o result)
-    unfolding unlessAborted aborting idle
+    unfolding unlessAborted
     unless-mapped none result e = e
-    unless-mapped (some reason) result e = ap (λ q. record { outcome = aborted reason; after = q }) (with-mapped r i _)
+    unless-mapped (some reason) result e = ended-mapped reason
 
     -- A commit.
     commit-mapped : committing (mapSetting S) (mapRegister r) i (mapHandler (r .handlers i)) ≡ mapRegister (committing S r i (r .handlers i))
@@ -95,6 +101,7 @@ module _ {W U : Type 0} (f : W → U) where
     unfolding step begun wrote trying tryChecks isOvertaken isSpent reading firstRead readChecks isTorn shown joined taken withHandler firstHit
     step-mapped begin v = ap (λ q. record { outcome = ok; after = q }) (with-mapped r i _)
     step-mapped try v = unless-mapped (firstHit (tryChecks S r (r .handlers i))) (record { outcome = committed; after = committing S r i (r .handlers i) }) (ap (λ q. record { outcome = committed; after = q }) commit-mapped)
+    step-mapped giveUp v = ended-mapped gaveUp
     step-mapped (read x) v = by (r .handlers i .readSet x || r .handlers i .writtenSet x)
         (λ e. rw e)
         (λ e. rw e (unless-mapped (firstHit (readChecks S (joined (r .handlers i) x (r .cells x)) (r .cells x)))

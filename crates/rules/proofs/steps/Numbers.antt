@@ -5,8 +5,8 @@ use native.Mathlib.Omega.{arith}
 use mathlib.Core.Path.{_≡_, refl, sym, ap, _∙_}
 use lib.Dec.{eqb}
 use Rattle.rules.specs.steps.Tables.{if_then_else_}
-use Rattle.rules.specs.steps.Replies.{Reason, torn, overtaken, spent, Outcome, ok, value, committed, aborted, Refusal}
-use Rattle.rules.specs.steps.Replies.{notWellFormed, noHandler, noCell, alreadyOpen, notOpen, unknownStep, outOfRange}
+use Rattle.rules.specs.steps.Replies.{Reason, torn, overtaken, spent, gaveUp, Outcome, ok, value, committed}
+use Rattle.rules.specs.steps.Replies.{aborted, Refusal, notWellFormed, noHandler, noCell, alreadyOpen, notOpen, unknownStep, outOfRange}
 use Rattle.rules.specs.steps.Replies.{tooShort, badFile, usedUp, tooManyCommits, sheetFull, reasonNumber, refusalNumber}
 use Rattle.rules.specs.steps.Replies.{Numbers, outcomeNumbers, refusalNumbers}
 
@@ -20,7 +20,7 @@ read-back number back same a b e = sym (same a) ∙ ap back e ∙ same b
 
 -- The reason of a number.
 reasonBack : ℕ → Reason
-reasonBack n = if eqb n 1 then torn else (if eqb n 2 then overtaken else spent)
+reasonBack n = if eqb n 1 then torn else (if eqb n 2 then overtaken else (if eqb n 3 then spent else gaveUp))
 
 -- The refusal of a number.
 refusalBack : ℕ → Refusal
@@ -44,6 +44,7 @@ unfolding reasonBack
 reason-back torn = refl
 reason-back overtaken = refl
 reason-back spent = refl
+reason-back gaveUp = refl
 
 -- A refusal comes back from its number.
 refusal-back : (refusal : Refusal) → refusalBack (refusalNumber refusal) ≡ refusal

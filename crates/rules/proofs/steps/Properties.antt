@@ -1,9 +1,9 @@
 -- What a reader expects of the steps: what each leaves alone, and what an abort leaves. Properties are numbered as in PI 1923.
 use Prim.Native.Nat.{ℕ}
 use native.Mathlib.Omega.{arith}
-use mathlib.Core.Path.{_≡_, refl}
-use Rattle.rules.specs.steps.Codes.{Step, begin, try, read, write}
-use Rattle.rules.specs.steps.Replies.{Reason, Outcome, ok, value, committed, aborted}
+use mathlib.Core.Path.{_≡_, refl, ap}
+use Rattle.rules.specs.steps.Codes.{Step, begin, try, giveUp, read, write}
+use Rattle.rules.specs.steps.Replies.{Reason, gaveUp, Outcome, ok, value, committed, aborted, reasonNumber}
 use Rattle.rules.specs.steps.Register.{Setting, Handler, Register, withHandler, idle}
 use Rattle.rules.specs.steps.Figure.{Result, aborting, step}
 use Rattle.rules.proofs.steps.Tables.{put-other}
@@ -38,12 +38,17 @@ module _ {W : Type 0} where
   pub value-no-abort : (v : W) (reason : Reason) → value v ≡ aborted reason → ⊥
   value-no-abort v reason e = let z : _≡_ {A = ℕ} 0 1 = cc in omega arith
 
+  -- Two aborts that are the same have one number.
+  same-number : {a b : Reason} → _≡_ {A = Outcome W} (aborted a) (aborted b) → reasonNumber a ≡ reasonNumber b
+  same-number {a} {b} e = let same : a ≡ b = cc in ap reasonNumber same
+
 module _ {W : Type 0} (S : Setting W) where
-  -- Begin, read and write change one handler only.
+  -- Begin, read, write and give up change one handler only.
   pub changes-one : (r : Register W) (i : ℕ) (s : Step) (v : W) → (s ≡ try → ⊥) → OneHandler r i (step S r i s v .after)
   unfolding step aborting
   changes-one r i begin v ne = one-changed r i _
   changes-one r i try v ne = absurd (ne refl)
+  changes-one r i giveUp v ne = one-changed r i _
   changes-one r i (read x) v ne =
       reading-cases S r i (r .handlers i) (λ result. OneHandler r i (result .after)) x
       (λ copied. unchanged r i) (λ first isTorn. one-changed r i _) (λ first isTaken. one-changed r i _)
@@ -75,3 +80,26 @@ module _ {W : Type 0} (S : Setting W) where
   abort-ends r i try v reason =
       trying-cases S r i (r .handlers i) (EndsIdle r i reason)
       (λ stale e. refl) (λ current full e. refl) (λ current roomy e. absurd (commit-no-abort reason e))
+  abort-ends r i giveUp v reason = λ e. refl
+
+  -- A give up always comes to abort 5. What it leaves is what every abort does (abort-ends).
+  pub give-up-aborts : (r : Register W) (i : ℕ) (v : W) → step S r i giveUp v .outcome ≡ aborted gaveUp
+  unfolding step
+  give-up-aborts r i v = refl
+
+  -- No other step comes to it.
+  pub only-give-up : (r : Register W) (i : ℕ) (s : Step) (v : W) → step S r i s v .outcome ≡ aborted gaveUp → s ≡ giveUp
+  unfolding step
+  only-give-up r i begin v = λ e. absurd (ok-no-abort gaveUp e)
+  only-give-up r i (write x) v = λ e. absurd (ok-no-abort gaveUp e)
+  only-give-up r i giveUp v = λ e. refl
+  only-give-up r i (read x) v =
+      reading-cases S r i (r .handlers i) (λ result. result .outcome ≡ aborted gaveUp → read x ≡ giveUp) x
+      (λ copied e. absurd (value-no-abort _ gaveUp e))
+      (λ first isTorn e. let numbers : 1 ≡ 5 = same-number e in absurd (omega arith))
+      (λ first isTaken e. absurd (value-no-abort _ gaveUp e))
+  only-give-up r i try v =
+      trying-cases S r i (r .handlers i) (λ result. result .outcome ≡ aborted gaveUp → try ≡ giveUp)
+      (λ stale e. let numbers : 2 ≡ 5 = same-number e in absurd (omega arith))
+      (λ current full e. let numbers : 3 ≡ 5 = same-number e in absurd (omega arith))
+      (λ current roomy e. absurd (commit-no-abort gaveUp e))

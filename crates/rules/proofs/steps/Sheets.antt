@@ -1,7 +1,7 @@
 -- Figure 1's steps look at no code: under another sheet the same step comes to the same.
 use Prim.Native.Nat.{ℕ}
 use mathlib.Core.Path.{_≡_, refl}
-use Rattle.rules.specs.steps.Codes.{Step, begin, try, read, write, Sheet}
+use Rattle.rules.specs.steps.Codes.{Step, begin, try, giveUp, read, write, Sheet}
 use Rattle.rules.specs.steps.Register.{Setting, Register, idle}
 use Rattle.rules.specs.steps.Figure.{begun, isTorn, isOvertaken, isSpent, aborting, committing, unlessAborted, readChecks, tryChecks}
 use Rattle.rules.specs.steps.Figure.{firstRead, reading, trying, step}
@@ -16,5 +16,6 @@ pub step-under : {W : Type 0} (sheet : Sheet) (S : Setting W) (r : Register W) (
 unfolding step trying reading firstRead tryChecks readChecks unlessAborted committing aborting isSpent isOvertaken isTorn begun idle
 step-under sheet S r i begin v = refl
 step-under sheet S r i try v = refl
+step-under sheet S r i giveUp v = refl
 step-under sheet S r i (read x) v = refl
 step-under sheet S r i (write x) v = refl

@@ -3,7 +3,7 @@
 use Prim.Native.Nat.{ℕ, _<_}
 use mathlib.Core.Path.{_≡_}
 use mathlib.Core.Bool.{Bool, false, _||_}
-use Rattle.rules.specs.steps.Codes.{Step, begin, try, read, write}
+use Rattle.rules.specs.steps.Codes.{Step, begin, try, giveUp, read, write}
 use Rattle.rules.specs.steps.Register.{Setting, Register, withHandler}
 use Rattle.rules.specs.steps.Given.{Within}
 use Rattle.rules.specs.steps.Figure.{wrote, begun, isOvertaken, isSpent, aborting, committing, step}
@@ -30,6 +30,7 @@ module _ {W : Type 0} (S : Setting W) (P : Register W → Type 0) (r : Register 
   step-leaves try below v =
       trying-cases S r i (r .handlers i) (λ result. P (result .after))
       (λ stale. ways .aborts) (λ current full. ways .aborts) (ways .commits)
+  step-leaves giveUp below v = ways .aborts
   step-leaves (read x) below v =
       reading-cases S r i (r .handlers i) (λ result. P (result .after)) x
       (λ copied. ways .stays) (λ first isTorn. ways .aborts) (ways .reads x below)

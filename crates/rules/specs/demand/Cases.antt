@@ -1,4 +1,4 @@
--- The cases K1 to K12 of docs/RULES.md as data, and some besides: one list of rows. A row has its opening, its steps with the
+-- The cases K1 to K12 and K14 of docs/RULES.md as data, and some besides: one list of rows. A row has its opening, its steps with the
 -- replies that are expected, and the words that are expected at the end. The crate `cases` claims them of the promises, proofs/AllCases.antt of
 -- the rules.
 use Prim.Native.Nat.{ℕ}
@@ -75,7 +75,7 @@ untouched k = replicate k 7
 
 -- ── The rows ──────────────────────────────────────────────────────────
 
--- The cases, in their order. Behind K12 stand K5, K6 and K12 with a read more than docs/RULES.md has, so that what is written is seen.
+-- The cases, in their order. Behind K14 stand K5, K6 and K12 with a read more than docs/RULES.md has, so that what is written is seen.
 -- Before K1 and at the end stand inputs that no register was opened for: each gets its number.
 unfoldable pub cases : List Case
 cases =
@@ -85,10 +85,10 @@ cases =
     -- K1 n = 1: 17 words open, 16 give 21
     record { start = opened 2 1 17 ok; lines = []; end = register (cell 0 0 0 ∷ cell 0 0 0 ∷ []) (rests 0 0 ∷ []) [] } ∷
     record { start = opened 2 1 16 (refused 21); lines = []; end = loose (untouched 16) } ∷
-    -- K2 idle read of cell 31: 12. Code 2 with handler 16: 15
+    -- K2 idle read of cell 31: 12. Code 3 with handler 16: 15
     record {
       start = opened 2 1 19 ok;
-      lines = line 0 63 (refused 12) ∷ line 16 2 (refused 15) ∷ [];
+      lines = line 0 63 (refused 12) ∷ line 16 3 (refused 15) ∷ [];
       end = register (cell 0 0 0 ∷ cell 0 0 0 ∷ []) (rests 0 0 ∷ []) (untouched 2);
     } ∷
     -- K3 begin, begin: ok, 13
@@ -199,6 +199,22 @@ cases =
           line 1 0 ok ∷ write 1 65 6 ∷ line 1 1 commit ∷
           line 0 1 (abort 2) ∷ [];
       end = register (cell 0 65535 0 ∷ cell 6 0 2 ∷ []) (rests 4 0 ∷ rests 0 2 ∷ []) [];
+    } ∷
+    -- K14 H0 commits 1 := 3, H1 0 := 5; H0 reads 0, writes 1 := 7, gives up: abort 5, cells and its numbers as they were. Idle: 14
+    record {
+      start = opened 2 2 27 ok;
+      lines =
+          line 0 0 ok ∷ write 0 65 3 ∷ line 0 1 commit ∷
+          line 1 0 ok ∷ write 1 64 5 ∷ line 1 1 commit ∷
+          line 0 0 ok ∷ line 0 32 (value 5) ∷ write 0 65 7 ∷ line 0 2 (abort 5) ∷
+          line 0 2 (refused 14) ∷ line 2 2 (refused 11) ∷ [];
+      end = register (cell 5 1 0 ∷ cell 3 0 1 ∷ []) (rests 0 1 ∷ rests 1 0 ∷ []) (untouched 1);
+    } ∷
+    -- the same, and H0 begins anew
+    record {
+      start = given (2 ∷ 1 ∷ (cell 5 1 0 ++ (cell 3 0 1 ++ rests 0 1)));
+      lines = line 0 0 ok ∷ line 0 32 (value 5) ∷ write 0 65 7 ∷ line 0 2 (abort 5) ∷ line 0 0 ok ∷ [];
+      end = register (cell 5 1 0 ∷ cell 3 0 1 ∷ []) ((1 ∷ 0 ∷ 0 ∷ 0 ∷ 1 ∷ 0 ∷ 1 ∷ 0 ∷ 0 ∷ []) ∷ []) [];
     } ∷
     -- besides K5: H1 reads what it wrote before it commits
     record {

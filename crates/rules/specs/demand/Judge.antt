@@ -7,8 +7,8 @@ use mathlib.Core.Logic.{_↔_}
 use mathlib.Core.Option.{Option, none, some}
 use lib.Dec.{eqb}
 use Rattle.rules.specs.steps.Tables.{if_then_else_, put, someBelow}
-use Rattle.rules.specs.steps.Codes.{Step, begin, try, read, write, Kind, known, unknown}
-use Rattle.rules.specs.steps.Replies.{Reason, torn, overtaken, spent, Outcome, ok, value, committed, aborted}
+use Rattle.rules.specs.steps.Codes.{Step, begin, try, giveUp, read, write, Kind, known, unknown}
+use Rattle.rules.specs.steps.Replies.{Reason, torn, overtaken, spent, gaveUp, Outcome, ok, value, committed, aborted}
 use Rattle.rules.specs.steps.Replies.{Refusal, unknownStep, Reply}
 use Rattle.rules.specs.steps.Register.{Setting, Register}
 use Rattle.rules.specs.steps.Checks.{_when_, firstHit, Asked, asking, stepChecks}
@@ -76,6 +76,7 @@ module _ {W : Type 0} (S : Setting W) where
   answer h i (write x) = ok
   answer h i (read x) = answerRead (h .commits) (h .now i) x
   answer h i try = answerTry (h .commits) (h .now i)
+  answer h i giveUp = aborted gaveUp
 
   -- What the checks of a step look at, as the history tells it of a register of n handlers.
   abbrev pub askedByHistory : ℕ → History W → ℕ → ℕ → Asked

@@ -6,7 +6,7 @@ use mathlib.Core.List.{List, [], _∷_}
 use lib.ListN.{length}
 use lib.Dec.{eqb}
 use Rattle.rules.specs.steps.Tables.{if_then_else_, put}
-use Rattle.rules.specs.steps.Codes.{Step, begin, try, read, write, Kind, known, unknown}
+use Rattle.rules.specs.steps.Codes.{Step, begin, try, giveUp, read, write, Kind, known, unknown}
 use Rattle.rules.specs.steps.Replies.{Outcome, ok, value, committed, aborted, Reply, reported}
 
 -- What a transaction did in one step. A commit is named by its place in the order of commits, counted from 1; 0 names the
@@ -24,7 +24,7 @@ pub record Commit (W : Type 0) : Type 0 where
   pub handler : ℕ
   pub deeds : List (Deed W)
 
--- An aborted transaction, and how many commits stood when it ended. The read or try that aborted it is not among its deeds.
+-- An aborted transaction, and how many commits stood when it ended. A read that aborted it is not among its deeds; all others are.
 pub record Abort (W : Type 0) : Type 0 where
   pub handler : ℕ
   pub deeds : List (Deed W)
@@ -97,6 +97,7 @@ module _ {W : Type 0} where
   noteOk h i (write x) v = doing h i (set x v ∷ h .now i)
   noteOk h i (read x) v = h
   noteOk h i try v = h
+  noteOk h i giveUp v = h
 
   -- An answer with a value, which only a read gets; the sources are the writers of what the cells hold.
   unfoldable pub noteValue : (ℕ → ℕ) → History W → ℕ → Step → W → History W
@@ -104,6 +105,7 @@ module _ {W : Type 0} where
   noteValue source h i (write x) v = h
   noteValue source h i begin v = h
   noteValue source h i try v = h
+  noteValue source h i giveUp v = h
 
   -- Handler i's open transaction, as the commit that it may become.
   abbrev pub transaction : History W → ℕ → Commit W

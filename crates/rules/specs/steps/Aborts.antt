@@ -3,7 +3,7 @@
 use Prim.Native.Nat.{ℕ, _<_}
 use mathlib.Core.Path.{_≡_}
 use mathlib.Core.Bool.{true}
-use Rattle.rules.specs.steps.Replies.{Reason, torn, overtaken, spent}
+use Rattle.rules.specs.steps.Replies.{Reason, torn, overtaken, spent, gaveUp}
 use Rattle.rules.specs.steps.Register.{Setting, Cell, Handler, Register}
 
 -- Line 10: each cell of the read set still has the number that the transaction holds for it.
@@ -26,8 +26,9 @@ Roomy S r h = (z : ℕ) → z < S .cellCount → h .writtenSet z ≡ true → r 
 unfoldable pub Torn : {W : Type 0} → Setting W → Handler W → Cell W → Type 0
 Torn S h c = (y : ℕ) × (y < S .cellCount) × (h .readSet y ≡ true) × (h .transaction y < c .numbers y)
 
--- When a try is aborted with each reason: 2 goes before 3.
+-- When a try is aborted with each reason: 2 goes before 3. Abort 1 is a read's, and abort 5 a give up's.
 abbrev pub TryAborted : {W : Type 0} → Setting W → Reason → Register W → Handler W → Type 0
 TryAborted S torn r h = ⊥
 TryAborted S overtaken r h = Stale S r h
 TryAborted S spent r h = Current S r h × Spent S r h
+TryAborted S gaveUp r h = ⊥

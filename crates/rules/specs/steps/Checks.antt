@@ -6,7 +6,7 @@ use mathlib.Core.List.{List, [], _∷_}
 use mathlib.Core.Option.{Option, none, some}
 use lib.Dec.{ltb, leb}
 use Rattle.rules.specs.steps.Tables.{if_then_else_}
-use Rattle.rules.specs.steps.Codes.{begin, try, read, write, Kind, known, unknown}
+use Rattle.rules.specs.steps.Codes.{begin, try, giveUp, read, write, Kind, known, unknown}
 use Rattle.rules.specs.steps.Replies.{Refusal, notWellFormed, noHandler, noCell, alreadyOpen, notOpen, unknownStep, outOfRange, tooShort}
 
 -- A check: what it says, and when.
@@ -55,6 +55,7 @@ isUnknown unknown = true
 abbrev pub isBeyond : ℕ → Kind → Bool
 isBeyond m (known begin) = false
 isBeyond m (known try) = false
+isBeyond m (known giveUp) = false
 isBeyond m (known (read x)) = leb m x
 isBeyond m (known (write x)) = leb m x
 isBeyond m unknown = false
@@ -63,6 +64,7 @@ isBeyond m unknown = false
 abbrev pub isBegin : Kind → Bool
 isBegin (known begin) = true
 isBegin (known try) = false
+isBegin (known giveUp) = false
 isBegin (known (read x)) = false
 isBegin (known (write x)) = false
 isBegin unknown = false

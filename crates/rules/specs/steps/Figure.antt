@@ -1,12 +1,12 @@
--- The four steps, after Figure 1 of PI 1923 and docs/RULES.md: begin, read, write, and try as one step.
+-- The five steps, after Figure 1 of PI 1923 and docs/RULES.md: begin, read, write, try as one step, and give up, which the figure has not.
 use Prim.Native.Nat.{ℕ, _+_, max}
 use mathlib.Core.Bool.{Bool, true, not, _&&_, _||_}
 use mathlib.Core.List.{List, [], _∷_}
 use mathlib.Core.Option.{Option, none, some}
 use lib.Dec.{eqb, ltb}
 use Rattle.rules.specs.steps.Tables.{if_then_else_, put, someBelow}
-use Rattle.rules.specs.steps.Codes.{Step, begin, try, read, write}
-use Rattle.rules.specs.steps.Replies.{Reason, torn, overtaken, spent, Outcome, ok, value, committed, aborted}
+use Rattle.rules.specs.steps.Codes.{Step, begin, try, giveUp, read, write}
+use Rattle.rules.specs.steps.Replies.{Reason, torn, overtaken, spent, gaveUp, Outcome, ok, value, committed, aborted}
 use Rattle.rules.specs.steps.Register.{Setting, Cell, Handler, Register, withHandler, noCells, idle}
 use Rattle.rules.specs.steps.Checks.{Check, _when_, firstHit}
 
@@ -94,10 +94,14 @@ module _ {W : Type 0} (S : Setting W) where
   unfoldable pub committing : Register W → ℕ → Handler W → Register W
   committing r i h = withHandler (record { cells = stored r h; handlers = r .handlers }) i (idle S (stamped r h))
 
+  -- A transaction is ended with a reason, whoever wants it: a check, or its own handler.
+  abbrev pub endedWith : Reason → Register W → ℕ → Handler W → Result W
+  endedWith reason r i h = record { outcome = aborted reason; after = aborting r i h }
+
   -- A transaction goes on to a result unless a check aborts it.
   unfoldable pub unlessAborted : Register W → ℕ → Handler W → Option Reason → Result W → Result W
   unlessAborted r i h none result = result
-  unlessAborted r i h (some reason) result = record { outcome = aborted reason; after = aborting r i h }
+  unlessAborted r i h (some reason) result = endedWith reason r i h
 
   -- The check of a first read, by a transaction that X has joined.
   unfoldable pub readChecks : Handler W → Cell W → List (Check Reason)
@@ -129,5 +133,6 @@ module _ {W : Type 0} (S : Setting W) where
   unfoldable pub step : Register W → ℕ → Step → W → Result W
   step r i begin v = record { outcome = ok; after = withHandler r i (begun (r .handlers i)) }
   step r i try v = trying r i (r .handlers i)
+  step r i giveUp v = endedWith gaveUp r i (r .handlers i)
   step r i (read x) v = reading r i (r .handlers i) x
   step r i (write x) v = record { outcome = ok; after = withHandler r i (wrote (r .handlers i) x v) }

@@ -3,7 +3,7 @@
 use Prim.Native.Nat.{ℕ, _≤_, _<_}
 use mathlib.Core.Path.{_≡_}
 use mathlib.Core.Bool.{Bool, true, false}
-use Rattle.rules.specs.steps.Codes.{Step, begin, try, read, write, Kind, known, unknown}
+use Rattle.rules.specs.steps.Codes.{Step, begin, try, giveUp, read, write, Kind, known, unknown}
 use Rattle.rules.specs.steps.Replies.{Refusal, notWellFormed, noHandler, noCell, alreadyOpen, notOpen, unknownStep, outOfRange, tooShort}
 use Rattle.rules.specs.steps.Checks.{Asked}
 
@@ -11,6 +11,7 @@ use Rattle.rules.specs.steps.Checks.{Asked}
 abbrev pub Within : ℕ → Step → Type 0
 Within m begin = Unit {0}
 Within m try = Unit {0}
+Within m giveUp = Unit {0}
 Within m (read x) = x < m
 Within m (write x) = x < m
 
@@ -18,13 +19,15 @@ Within m (write x) = x < m
 abbrev pub Beyond : ℕ → Step → Type 0
 Beyond m begin = ⊥
 Beyond m try = ⊥
+Beyond m giveUp = ⊥
 Beyond m (read x) = m ≤ x
 Beyond m (write x) = m ≤ x
 
--- The step is a read, a write or a try.
+-- The step is a read, a write, a try or a give up.
 abbrev pub Late : Step → Type 0
 Late begin = ⊥
 Late try = Unit {0}
+Late giveUp = Unit {0}
 Late (read x) = Unit {0}
 Late (write x) = Unit {0}
 
@@ -58,6 +61,7 @@ pub data Given (a : Asked) : Refusal → Type 0 where
 abbrev pub phaseFor : Step → Bool
 phaseFor begin = false
 phaseFor try = true
+phaseFor giveUp = true
 phaseFor (read x) = true
 phaseFor (write x) = true
 

@@ -10,6 +10,8 @@ pub data Reason : Type 0 where
   overtaken : Reason
   -- a written cell's number can't be raised
   spent : Reason
+  -- its handler gave it up
+  gaveUp : Reason
 
 -- What a step that is taken comes to.
 pub data Outcome (W : Type 0) : Type 0 where
@@ -49,6 +51,7 @@ abbrev pub reasonNumber : Reason → ℕ
 reasonNumber torn = 1
 reasonNumber overtaken = 2
 reasonNumber spent = 3
+reasonNumber gaveUp = 5
 
 -- The number of a refusal.
 abbrev pub refusalNumber : Refusal → ℕ

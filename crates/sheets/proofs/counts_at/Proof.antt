@@ -24,4 +24,7 @@ counts-at-spec =
     (λ c. search needs)
     (λ c. search needs)
     (λ c. search needs)
-    (λ c. record { holds = each-column _ refl refl refl refl refl }))
+    (λ c. search needs)
+    (λ c. search needs)
+    (λ c. search needs)
+    (λ c. record { holds = each-column _ refl refl refl refl refl refl }))

@@ -28,6 +28,9 @@ put-counts-spec =
     (λ c. search needs)
     (λ c. simp length-set (omega arith))
     (λ c. search needs)
+    (λ c. search needs)
+    (λ c. simp length-set (omega arith))
+    (λ c. search needs)
     -- from the first column to the last
     (λ c. let table = inColumn (c .args .counts) in
     let words = c .args .sheet .now in
@@ -36,4 +39,5 @@ put-counts-spec =
     let two = changed-more (c .args .at) table words 1 _ _ one (omega arith) refl in
     let three = changed-more (c .args .at) table words 2 _ _ two (omega arith) refl in
     let four = changed-more (c .args .at) table words 3 _ _ three (omega arith) refl in
-    changed-more (c .args .at) table words 4 _ _ four (omega arith) refl))
+    let five = changed-more (c .args .at) table words 4 _ _ four (omega arith) refl in
+    changed-more (c .args .at) table words 5 _ _ five (omega arith) refl))

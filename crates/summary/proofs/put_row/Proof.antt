@@ -19,10 +19,13 @@ start c = begun c .before .before .before .before .before .before .before .befor
 abbrev torn : tie.After-put-count5 → tie.After-put-count3
 torn c = c .before .before .before .before .before .before .before .before .before .before
 
-abbrev spent : tie.After-put-text → tie.After-put-count5
+abbrev spent : tie.After-put-count6 → tie.After-put-count5
 spent c = c .before .before .before .before .before
 
--- Where the first three counts end, and where all end.
+abbrev given-up : tie.After-put-text → tie.After-put-count6
+given-up c = c .before .before .before .before .before
+
+-- Where the first three counts end, where the first five do, and where all end.
 three-end : (c : tie.After-put-count3) → c .put-count3 .result ≤ start c .args .at + 74
 three-end c = omega (
   arith,
@@ -32,24 +35,30 @@ three-end c = omega (
   c .put-count3 .ensures .1,
 )
 
-all-end : (c : tie.After-put-count5) → c .put-count5 .result ≤ start (torn c) .args .at + 110
-all-end c = omega (arith, three-end (torn c), c .before .before .before .before .before .put-count4 .ensures .1, c .put-count5 .ensures .1)
+five-end : (c : tie.After-put-count5) → c .put-count5 .result ≤ start (torn c) .args .at + 110
+five-end c = omega (arith, three-end (torn c), c .before .before .before .before .before .put-count4 .ensures .1, c .put-count5 .ensures .1)
+
+all-end : (c : tie.After-put-count6) → c .put-count6 .result ≤ start (torn (spent c)) .args .at + 128
+all-end c = omega (arith, five-end (spent c), c .put-count6 .ensures .1)
 
 -- The whole line is put.
-row-put : (c : tie.After-put-text) → let given = start (torn (spent c)) .args in
+row-put : (c : tie.After-put-text) → let given = start (torn (spent (given-up c))) .args in
     let text = rowText (given .handler) (counted (given .sheet .now) (given .handler)) in
     Puts text (given .at) (c .put-text .result) (given .buffer .now) (c .put-text .last .0)
 row-put c =
-    let given = start (torn (spent c)) .args in
+    let five = spent (given-up c) in
+    let three = torn five in
+    let given = start three .args in
     row-puts
     (given .handler)
     (counted (given .sheet .now) (given .handler))
-    (begun (torn (spent c)) .before .before .before .before .before .put-named .ensures .0)
-    (begun (torn (spent c)) .put-count .ensures .0)
-    (torn (spent c) .before .before .before .before .before .put-count2 .ensures .0)
-    (torn (spent c) .put-count3 .ensures .0)
-    (spent c .before .before .before .before .before .put-count4 .ensures .0)
-    (spent c .put-count5 .ensures .0)
+    (begun three .before .before .before .before .before .put-named .ensures .0)
+    (begun three .put-count .ensures .0)
+    (three .before .before .before .before .before .put-count2 .ensures .0)
+    (three .put-count3 .ensures .0)
+    (five .before .before .before .before .before .put-count4 .ensures .0)
+    (five .put-count5 .ensures .0)
+    (given-up c .put-count6 .ensures .0)
     (c .put-text .ensures)
 
 pub put-row-spec : {M : Type 1} → statement M
@@ -73,7 +82,10 @@ put-row-spec =
     (start torn .pre .1, omega arith, omega (arith, three-end torn, overtaken .put-count4 .ensures .1, start torn .pre .0), omega arith))
     (λ c. search needs)
     (λ c κs. let spent = c .before .before .before .before in
-    (omega (arith, all-end spent, start (torn spent) .pre .0), omega arith))
+    (start (torn spent) .pre .1, omega arith, omega (arith, five-end spent, start (torn spent) .pre .0), omega arith))
+    (λ c. search needs)
+    (λ c κs. let all = c .before .before .before .before in
+    (omega (arith, all-end all, start (torn (spent all)) .pre .0), omega arith))
     (λ c. row-put (c .before .before) .size)
     (λ c. let last = c .before .before in
-    (row-put last, omega (arith, all-end (spent last), last .put-text .ensures .ends))))
+    (row-put last, omega (arith, all-end (given-up last), last .put-text .ensures .ends))))

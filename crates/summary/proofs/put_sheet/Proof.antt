@@ -13,7 +13,7 @@ use Rattle.summary.proofs.put_sheet.Tie as tie
 
 abbrev Inv-loop : tie.InvT-loop
 Inv-loop sheet buffer₀ end₀ handler₀ buffer end handler =
-    (handler ≤ 16) × (end ≤ handler * 111) × Puts (rows handler (λ h. rowText h (counted sheet h))) 0 end buffer₀ buffer
+    (handler ≤ 16) × (end ≤ handler * 129) × Puts (rows handler (λ h. rowText h (counted sheet h))) 0 end buffer₀ buffer
 
 abbrev μ-loop : tie.MeasureT-loop
 μ-loop sheet buffer₀ end₀ handler₀ buffer end handler = 16 - handler

@@ -14,12 +14,13 @@ use std::process::exit;
 use std::time::Instant;
 
 /// What the random files have to meet, each at least once.
-const KINDS: [&str; 22] = [
+const KINDS: [&str; 24] = [
     "ok",
     "value",
     "commit",
     "abort 1",
     "abort 2",
+    "abort 5",
     "refused 11",
     "refused 12",
     "refused 13",
@@ -35,6 +36,7 @@ const KINDS: [&str; 22] = [
     "file cut before its last place",
     "abort 1 after 64 commits",
     "abort 2 after 64 commits",
+    "abort 5 after 64 commits",
     "other step after 64 commits",
     "refusal after 64 commits",
 ];
@@ -87,6 +89,7 @@ impl Comparison {
                 Reply::Commit => noted += 1,
                 Reply::Abort(1) if noted == MOST => counts.note("abort 1 after 64 commits"),
                 Reply::Abort(2) if noted == MOST => counts.note("abort 2 after 64 commits"),
+                Reply::Abort(5) if noted == MOST => counts.note("abort 5 after 64 commits"),
                 Reply::Ok | Reply::Value(_) if noted == MOST => counts.note("other step after 64 commits"),
                 Reply::Refused(number) if noted == MOST && number < 33 => counts.note("refusal after 64 commits"),
                 _ => (),

@@ -8,7 +8,7 @@ use reference::{generate, hexadecimal, histories, proved, schedule};
 use std::process::exit;
 
 /// What a comparison has to meet, or it shows nothing of it. No file reaches abort 3.
-const NEEDED: [&str; 12] = [
+const NEEDED: [&str; 13] = [
     "reply 0",
     "reply 21",
     "reply 30",
@@ -18,13 +18,14 @@ const NEEDED: [&str; 12] = [
     "committed",
     "abort1",
     "abort2",
+    "abort5",
     "41 for a handler that the file has not",
     "0 with a count at the border",
     "0 with a full word behind the sheet",
 ];
 
 /// The columns' names, as the program `sheet` prints them.
-const NAMES: [&str; COLUMNS] = ["begun", "committed", "abort1", "abort2", "abort3"];
+const NAMES: [&str; COLUMNS] = ["begun", "committed", "abort1", "abort2", "abort3", "abort5"];
 
 /// A count that makes a sheet full.
 fn full(random: &mut Random) -> u32 {

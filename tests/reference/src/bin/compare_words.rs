@@ -82,12 +82,13 @@ fn code(random: &mut Random, m: u32) -> u32 {
     let m = u64::from(m.clamp(1, 32));
     match random.below(12) {
         0 => 0,
-        1..=3 => 1,
+        1..=2 => 1,
+        3 => 2,
         4..=6 => 32 + random.below(m) as u32,
         7..=8 => 64 + random.below(m) as u32,
         9 => random.byte().into(),
         10 => 32 + random.below(64) as u32,
-        _ => random.one_of(&[2, 31, 96, 255, 256, u32::MAX]),
+        _ => random.one_of(&[3, 31, 96, 255, 256, u32::MAX]),
     }
 }
 

@@ -3,13 +3,23 @@
 use super::{directed, Directed};
 use crate::course::Course;
 use crate::judge::MOST;
-use crate::steps::{read, write, BEGIN, TRY};
+use crate::steps::{read, write, BEGIN, GIVE_UP, TRY};
 
 /// One handler alone, which reads its cell and writes it.
 fn alone(commits: usize) -> Course {
     let mut course = Course::new(1, 1);
     for place in 0..commits {
         course.transaction(0, &[read(0), write(0, place as u32)]);
+    }
+    course
+}
+
+/// One handler alone, which gives up before each commit.
+fn giving_up(commits: usize) -> Course {
+    let mut course = Course::new(1, 1);
+    for place in 0..commits {
+        course.take_all(0, [BEGIN, read(0), write(0, 9), GIVE_UP]);
+        course.transaction(0, &[write(0, place as u32)]);
     }
     course
 }
@@ -66,6 +76,8 @@ pub(super) fn all() -> Vec<Directed> {
         directed("one handler, 64 commits", &alone(64), "255 0 1 commit"),
         directed("one handler, 65 commits", &alone(65), "259 0 1 refused 33"),
         directed("one handler, 66 commits", &alone(66), "259 0 1 refused 33"),
+        directed("one handler, 64 commits, as many give ups", &giving_up(64), "447 0 1 commit"),
+        directed("one handler, 65 commits, as many give ups", &giving_up(65), "454 0 1 refused 33"),
         directed("one handler, 63 commits of nothing", &nothing(1, 63), "125 0 1 commit"),
         directed("one handler, 64 commits of nothing", &nothing(1, 64), "127 0 1 commit"),
         directed("one handler, 65 commits of nothing", &nothing(1, 65), "129 0 1 refused 33"),
@@ -82,6 +94,9 @@ pub(super) fn all() -> Vec<Directed> {
         directed("aborts and refusals, then a commit", &at_the_limit("0:try"), "212 0 1 refused 33"),
         directed("a commit of reads after 64", &at_the_limit("2:try 0:read2,try"), "212 2 1 refused 33"),
         directed("a try while idle after 64 commits", &at_the_limit("1:try"), "212 1 1 refused 14"),
+        directed("a give up after 64 commits", &at_the_limit("2:give-up"), "212 2 2 abort 5"),
+        directed("a give up while idle after 64 commits", &at_the_limit("1:give-up"), "212 1 2 refused 14"),
+        directed("give ups after 64, then a commit", &at_the_limit("2:give-up 0:give-up,begin,try"), "215 0 1 refused 33"),
         directed("a commit of nothing after 64", &at_the_limit("1:try,begin,try 2:read2"), "214 1 1 refused 33"),
     ]
 }

@@ -2,7 +2,7 @@
 //! neighbour of nearly the same steps that is answered the other way.
 
 /// Short schedules: what they show, their steps, and what the last one comes to. All have 4 handlers and 4 cells.
-pub(super) const SHORT: [(&str, &str, &str); 34] = [
+pub(super) const SHORT: [(&str, &str, &str); 38] = [
     ("the version's own commit", "0:begin,read0 1:begin,write0=5,write1=7,try 0:read1", "abort 1"),
     ("a commit that it read", "0:begin,read0 1:begin,write0=5,try 2:begin,read0,write1=6,try 0:read1", "abort 1"),
     (
@@ -96,5 +96,13 @@ pub(super) const SHORT: [(&str, &str, &str); 34] = [
         "0:begin,read0 1:begin,write0=5,write1=6,try 2:begin,read1 3:begin,write1=8,write2=9,try 2:read2,begin,write3=7,try 0:read3",
         "value 7",
     ),
+    (
+        "a transaction of its handler that gave up",
+        "0:begin,read0 1:begin,write0=5,write1=6,try 2:begin,read1,give-up,begin,write2=7,try 0:read2",
+        "value 7",
+    ),
+    ("a write that was given up", "1:begin,write1=5,give-up 0:begin,read1", "value 0"),
+    ("a read that was given up", "0:begin,read0 1:begin,write0=5,try 0:give-up,begin,read0", "value 5"),
+    ("a try behind a give up", "0:begin,write0=5,give-up,try", "refused 14"),
     ("an aborted transaction's write", "1:begin,read0,write1=5 2:begin,write0=1,try 1:try 0:begin,read1", "value 0"),
 ];

@@ -1,13 +1,13 @@
 //! Random schedules that have exactly so many commits, or exactly so many bytes. The judge notes 64 commits at most, and a file
 //! has 65,535 bytes at most: what stands at these limits should not be left to chance.
 use super::parts::Parts;
-use super::transactions::{access, any_write, interleaved, Manner};
+use super::transactions::{access, any_write, ending, interleaved, Manner};
 use crate::random::Random;
-use crate::steps::{self, read, Step, BEGIN, TRY};
+use crate::steps::{self, read, Step, BEGIN, GIVE_UP, TRY};
 
 /// A schedule with exactly so many commits (at least 2), many of them of transactions that read and wrote nothing. Whole
-/// transactions come one after another. Before them handler 0 reads cell 0, which is written, and handler 1 the last cell, which
-/// is not; after them handler 0 tries and aborts, and handler 1 commits.
+/// transactions come one after another, some of which give up and begin anew. Before them handler 0 reads cell 0, which is written,
+/// and handler 1 the last cell, which is not; after them handler 0 tries and aborts, and handler 1 commits.
 pub fn with_commits(random: &mut Random, commits: u64) -> Parts {
     let cells = random.within(2, 6) as u8;
     let handlers = random.within(3, 16);
@@ -30,7 +30,10 @@ pub fn with_commits(random: &mut Random, commits: u64) -> Parts {
                 steps.push(access(random, cell, 2));
             }
         }
-        steps.push(TRY);
+        steps.push(ending(random, Some(8)));
+        if steps.ends_with(&[GIVE_UP]) {
+            steps.extend([BEGIN, TRY]);
+        }
         whole(random, &steps);
     }
     scripts[0].extend([TRY, BEGIN, read(0)]);
@@ -39,9 +42,9 @@ pub fn with_commits(random: &mut Random, commits: u64) -> Parts {
     Parts::new(cells, &scripts, order)
 }
 
-/// A larger file: exactly so many bytes, about a step for each byte of the order.
-pub fn of_length(random: &mut Random, cells: u8, handlers: u8, length: usize) -> Parts {
-    let manner = Manner { cells, longest: 12, write_in: random.within(2, 6), again_in: 4, odd_in: 300 };
+/// A larger file: exactly so many bytes, about a step for each byte of the order; once in so many transactions one gives up.
+pub fn of_length(random: &mut Random, cells: u8, handlers: u8, length: usize, give_up_in: Option<u64>) -> Parts {
+    let manner = Manner { cells, longest: 12, write_in: random.within(2, 6), again_in: 4, odd_in: 300, give_up_in };
     let mut scripts = vec![Vec::new(); handlers.into()];
     // Each step needs its bytes in a script and one in the order; the last ones may not have theirs.
     let mut room = length.saturating_sub(Parts::new(cells, &scripts, Vec::new()).length());
@@ -83,7 +86,7 @@ mod tests {
     fn exactly_so_many_bytes() {
         let mut random = Random::new(5);
         for (cells, handlers, length) in [(1, 1, 300), (1, 16, 300), (32, 16, 65_535), (2, 3, 65_534)] {
-            let file = of_length(&mut random, cells, handlers, length).file();
+            let file = of_length(&mut random, cells, handlers, length, Some(8)).file();
             assert_eq!(file.len(), length);
             let schedule = judge(&file).unwrap();
             let steps: usize = schedule.scripts.iter().map(Vec::len).sum();

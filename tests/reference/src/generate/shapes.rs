@@ -1,9 +1,9 @@
 //! Random schedules of several shapes: transactions that meet, long pasts, steps in no order that makes sense, and the smallest and
 //! largest registers. All of them are sound.
 use super::parts::Parts;
-use super::transactions::{access, any_write, interleaved, odd_order_byte, Manner};
+use super::transactions::{access, any_write, ending, interleaved, odd_order_byte, Manner};
 use crate::random::Random;
-use crate::steps::{read, Step, BEGIN, TRY};
+use crate::steps::{read, Step, BEGIN, GIVE_UP, TRY};
 
 /// Few cells and some handlers, whose transactions meet.
 pub(super) fn contended(random: &mut Random) -> Parts {
@@ -14,6 +14,7 @@ pub(super) fn contended(random: &mut Random) -> Parts {
         write_in: random.within(2, 4),
         again_in: random.within(2, 8),
         odd_in: random.one_of(&[15, 60, 1000]),
+        give_up_in: Some(8),
     };
     let handlers = if random.once_in(3) { random.within(1, 16) } else { random.within(2, 6) };
     let scripts = manner.scripts(random, handlers, 6);
@@ -32,8 +33,8 @@ pub(super) fn contended(random: &mut Random) -> Parts {
 pub(super) fn readers_and_writers(random: &mut Random) -> Parts {
     let cells = random.within(2, 6) as u8;
     let handlers = random.within(2, 8);
-    let reading = Manner { cells, longest: 5, write_in: 8, again_in: 10, odd_in: 200 };
-    let writing = Manner { cells, longest: 3, write_in: 2, again_in: 4, odd_in: 200 };
+    let reading = Manner { cells, longest: 5, write_in: 8, again_in: 10, odd_in: 200, give_up_in: Some(8) };
+    let writing = Manner { cells, longest: 3, write_in: 2, again_in: 4, odd_in: 200, give_up_in: Some(8) };
     let mut scripts = reading.scripts(random, handlers / 2, 4);
     scripts.extend(writing.scripts(random, handlers - handlers / 2, 10));
     let order = interleaved(random, &scripts, 2, 100);
@@ -44,8 +45,8 @@ pub(super) fn readers_and_writers(random: &mut Random) -> Parts {
 /// reads and through the handlers' earlier commits.
 pub(super) fn long_pasts(random: &mut Random) -> Parts {
     let cells = random.within(2, 5) as u8;
-    let reading = Manner { cells, longest: 5, write_in: 6, again_in: 8, odd_in: 100 };
-    let writing = Manner { cells, longest: 2, write_in: 2, again_in: 4, odd_in: 200 };
+    let reading = Manner { cells, longest: 5, write_in: 6, again_in: 8, odd_in: 100, give_up_in: Some(8) };
+    let writing = Manner { cells, longest: 2, write_in: 2, again_in: 4, odd_in: 200, give_up_in: Some(8) };
     let readers = random.within(1, 10) as usize;
     let mut scripts = vec![Vec::new(); readers + random.within(1, 4) as usize];
     let mut left = vec![Vec::new(); readers];
@@ -74,7 +75,7 @@ pub(super) fn long_pasts(random: &mut Random) -> Parts {
 fn careless_step(random: &mut Random) -> Step {
     match random.below(4) {
         0 => BEGIN,
-        1 => random.one_of(&[BEGIN, TRY]),
+        1 => random.one_of(&[BEGIN, TRY, TRY, GIVE_UP]),
         _ => {
             let cell = random.below(32) as u8;
             access(random, cell, 2)
@@ -103,7 +104,7 @@ pub(super) fn edge(random: &mut Random) -> Parts {
     if random.once_in(2) {
         let last = cells - 1;
         let written = any_write(random, last);
-        let whole = [BEGIN, read(last), written, read(last), TRY];
+        let whole = [BEGIN, read(last), written, read(last), ending(random, Some(8))];
         scripts[handlers - 1] = whole[..random.place(6)].to_vec();
     }
     let order = match random.below(4) {

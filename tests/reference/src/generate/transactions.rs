@@ -1,7 +1,7 @@
 //! Random transactions in some manner, and the orders in which their steps are taken. Now and then a step or an order place is
 //! one that should be refused.
 use crate::random::Random;
-use crate::steps::{read, write, Step, BEGIN, TRY};
+use crate::steps::{read, write, Step, BEGIN, GIVE_UP, TRY};
 
 /// A value: mostly a small one, sometimes at a border or any.
 fn value(random: &mut Random) -> u32 {
@@ -25,6 +25,14 @@ pub(super) fn access(random: &mut Random, cell: u8, once_in: u64) -> Step {
     }
 }
 
+/// What ends a transaction: once in so many times a give up, else a try. Where there is to be none, nothing is drawn.
+pub(super) fn ending(random: &mut Random, give_up_in: Option<u64>) -> Step {
+    match give_up_in {
+        Some(times) if random.once_in(times) => GIVE_UP,
+        _ => TRY,
+    }
+}
+
 /// What the transactions of a schedule are like.
 pub(super) struct Manner {
     pub(super) cells: u8,
@@ -34,12 +42,14 @@ pub(super) struct Manner {
     pub(super) write_in: u64,
     /// Once in so many steps a cell is taken that the transaction already had.
     pub(super) again_in: u64,
-    /// Once in so many steps there is one that should be refused, or the begin or the try is missing.
+    /// Once in so many steps there is one that should be refused, or the begin or the end is missing.
     pub(super) odd_in: u64,
+    /// Once in so many transactions there is one that gives up.
+    pub(super) give_up_in: Option<u64>,
 }
 
 impl Manner {
-    /// Adds a transaction to a script: begin, some reads and writes, try.
+    /// Adds a transaction to a script: begin, some reads and writes, and its end.
     pub(super) fn transaction(&self, random: &mut Random, script: &mut Vec<Step>) {
         let mut had = Vec::new();
         if !random.once_in(self.odd_in) {
@@ -57,7 +67,7 @@ impl Manner {
             script.push(access(random, cell, self.write_in));
         }
         if !random.once_in(self.odd_in) {
-            script.push(TRY);
+            script.push(ending(random, self.give_up_in));
         }
     }
 

@@ -15,9 +15,11 @@ is-beyond-spec =
     (λ c. search needs)
     (λ c. search needs)
     (λ c. search needs)
+    (λ c. search needs)
     -- a read, and a write
     (λ c. ap (λ kind. isBeyond (c .before .before .before .args .m) (kindIs kind)) (sym (c .before .kind .given .1)))
     (λ c. ap (λ kind. isBeyond (c .before .before .before .args .m) (kindIs kind)) (sym (c .before .kind2 .given .1)))
+    (λ c. search needs)
     (λ c. search needs)
     (λ c. search needs)
     (λ c. search needs))

@@ -5,11 +5,11 @@ use mathlib.Core.Bool.{false, not}
 use mathlib.Core.List.{List}
 use native.Mathlib.Omega.{arith}
 use borrow.Author.Needs.{needs}
-use Rattle.rules.specs.steps.Codes.{Step, begin, try, read, write, Kind, known}
+use Rattle.rules.specs.steps.Codes.{Step, begin, try, giveUp, read, write, Kind, known}
 use Rattle.checks.specs.Meaning.{kindIs}
 use Rattle.checks.proofs.OneStep.{for-kind, no-step}
 use Rattle.judge.proofs.Answers.{stale-told}
-use Rattle.judge.proofs.Tests.{tooMany, room-left, begin-passes, write-passes, read-passes, try-too-many}
+use Rattle.judge.proofs.Tests.{tooMany, room-left, begin-passes, give-up-passes, write-passes, read-passes, try-too-many}
 use Rattle.judge.proofs.reading.is_too_many.Statement.{statement}
 use Rattle.judge.proofs.reading.is_too_many.Tie as tie
 
@@ -37,6 +37,7 @@ is-too-many-spec =
     (λ c. search needs)
     (λ c. search needs)
     (λ c. search needs)
+    (λ c. search needs)
     -- a try
     (λ c. let told = c .before .before in
     let start = told .before .before .before .before .before in
@@ -44,13 +45,15 @@ is-too-many-spec =
     for-kind (λ s. not (c .is-stale .result) ≡ tooMany (start .args .words .now) (start .args .i) s) try (ap kindIs (told .enum-told .given .1))
     (try-too-many _ _ (ready .ledger) (ready .handler) (omega (arith, told .before .before .if1 .left))
     (stale-told ready (c .before .handler-row .ensures) (c .is-stale .ensures))))
-    -- a begin, a read, a write
+    -- a begin, a give up, a read, a write
     (λ c. let args = c .before .before .before .before .before .args in
     passing (args .words .now) (args .i) begin (ap kindIs (c .enum-told2 .given .1)) (begin-passes (args .words .now) (args .i)))
     (λ c. let args = c .before .before .before .before .before .args in
-    let x = c .enum-told3 .given .0 .0 in
-    passing (args .words .now) (args .i) (read x) (ap kindIs (c .enum-told3 .given .1)) (read-passes (args .words .now) (args .i) x))
+    passing (args .words .now) (args .i) giveUp (ap kindIs (c .enum-told3 .given .1)) (give-up-passes (args .words .now) (args .i)))
     (λ c. let args = c .before .before .before .before .before .args in
     let x = c .enum-told4 .given .0 .0 in
-    passing (args .words .now) (args .i) (write x) (ap kindIs (c .enum-told4 .given .1)) (write-passes (args .words .now) (args .i) x))
-    (λ c s e. absurd (no-step s (ap kindIs (c .enum-told5 .given .1)) e)))
+    passing (args .words .now) (args .i) (read x) (ap kindIs (c .enum-told4 .given .1)) (read-passes (args .words .now) (args .i) x))
+    (λ c. let args = c .before .before .before .before .before .args in
+    let x = c .enum-told5 .given .0 .0 in
+    passing (args .words .now) (args .i) (write x) (ap kindIs (c .enum-told5 .given .1)) (write-passes (args .words .now) (args .i) x))
+    (λ c s e. absurd (no-step s (ap kindIs (c .enum-told6 .given .1)) e)))

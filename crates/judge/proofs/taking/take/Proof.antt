@@ -4,12 +4,12 @@ use mathlib.Core.Path.{_≡_, ap}
 use mathlib.Core.List.{List}
 use native.Mathlib.Omega.{arith}
 use borrow.Author.Needs.{needs}
-use Rattle.rules.specs.steps.Codes.{Step, begin, try, read, write, Kind, known}
+use Rattle.rules.specs.steps.Codes.{Step, begin, try, giveUp, read, write, Kind, known}
 use Rattle.rules.specs.steps.Replies.{Outcome}
 use Rattle.checks.specs.Meaning.{kindIs}
 use Rattle.checks.proofs.OneStep.{of-kind, for-kind, no-step}
 use Rattle.judge.specs.Taking.{Able, TakesNoted}
-use Rattle.judge.proofs.Passing.{takes-begin, takes-write}
+use Rattle.judge.proofs.Passing.{takes-begin, takes-give-up, takes-write}
 use Rattle.judge.proofs.taking.take.Statement.{statement}
 use Rattle.judge.proofs.taking.take.Tie as tie
 
@@ -32,6 +32,9 @@ take-spec =
     (λ c. search needs)
     (λ c κs. able-for (c .before .before .before .before .pre) try (ap kindIs (c .before .enum-told2 .given .1)))
     (λ c. search needs)
+    (λ c κs. search needs)
+    (λ c κs. search needs)
+    (λ c. search needs)
     (λ c κs. able-for (c .before .before .before .before .before .pre) (read _) (ap kindIs (c .before .before .kind .given .1)) .ready)
     (λ c. search needs)
     (λ c κs. let ready = able-for (c .before .before .before .before .before .pre) (write _) (ap kindIs (c .before .before .kind2 .given .1)) .ready in
@@ -48,12 +51,17 @@ take-spec =
     -- a try
     (λ c. takes-for try (ap kindIs (c .before .before .before .before .enum-told2 .given .1)) (c .before .before .attempt .ensures _))
     (λ c. search needs)
+    -- a give up
+    (λ c. let emptied = c .before .before in
+    takes-for giveUp (ap kindIs (emptied .before .before .before .enum-told3 .given .1))
+    (takes-give-up _ _ _ (emptied .before .handler-row2 .ensures) (emptied .empty-row2 .ensures)))
+    (λ c. search needs)
     -- a read
     (λ c. takes-for (read _) (ap kindIs (c .before .before .before .before .before .kind .given .1)) (c .before .before .read .ensures _))
     (λ c. search needs)
     -- a write
     (λ c. let noted = c .before .before in
     takes-for (write _) (ap kindIs (noted .before .before .before .before .kind2 .given .1))
-    (takes-write _ _ _ _ (noted .before .handler-row2 .ensures) (noted .note-write .ensures)))
+    (takes-write _ _ _ _ (noted .before .handler-row3 .ensures) (noted .note-write .ensures)))
     -- no step
-    (λ c s e. absurd (no-step s (ap kindIs (c .enum-told3 .given .1)) e)))
+    (λ c s e. absurd (no-step s (ap kindIs (c .enum-told4 .given .1)) e)))

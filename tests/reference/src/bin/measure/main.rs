@@ -1,8 +1,8 @@
 //! Measures the proved register beside this crate's.
 //! `measure rows` takes each row once by each side, for callgrind; `measure schedule FILE` writes the largest schedule; `measure memory
 //! PROGRAM SCHEDULE` prints the most memory that a program has on it, in KiB; and
-//! `measure table COUNTS SCHEDULE RUNNER RUNNER JUDGE JUDGE` times both and prints the table with the counts of a file, a number a
-//! line: those of the rows, ours and the reference's, then those of the four programs.
+//! `measure table COUNTS SCHEDULE RUNNER RUNNER JUDGE JUDGE SHEET SHEET` times both and prints the table with the counts of a file, a
+//! number a line: those of the rows, ours and the reference's, then those of the six programs.
 mod programs;
 mod rows;
 mod sides;
@@ -37,12 +37,12 @@ fn line(size: &str, name: &str, instructions: [f64; 2], nanoseconds: [f64; 2]) {
     println!("| {size:>6} | {name:<44} | {} | {times} |", compared(instructions, grouped));
 }
 
-/// Prints the table: the rows, the two programs beside the reference's, and their memory.
-fn table(counts: &str, schedule: &str, paths: [&str; 4]) {
+/// Prints the table: the rows, the three programs beside the reference's, and their memory.
+fn table(counts: &str, schedule: &str, paths: [&str; 6]) {
     let text = fs::read_to_string(counts).expect("the counts are there");
     let counts: Vec<f64> = text.lines().map(|line| line.parse().expect("a count")).collect();
     let rows = rows::all();
-    assert_eq!(counts.len(), 2 * rows.len() + 4, "a count for each row and side, and for four programs");
+    assert_eq!(counts.len(), 2 * rows.len() + 6, "a count for each row and side, and for six programs");
     let (of_rows, of_programs) = counts.split_at(2 * rows.len());
     println!("{HEAD}");
     for (row, count) in rows.iter().zip(of_rows.chunks(2)) {
@@ -50,7 +50,10 @@ fn table(counts: &str, schedule: &str, paths: [&str; 4]) {
     }
     let places = programs::places(&fs::read(schedule).expect("the schedule is there"));
     let mut memory = Vec::new();
-    for (name, far, which) in [("the runner", format!("{places} places"), 0), ("the judge", "to a 65th commit".into(), 2)] {
+    let all = format!("{places} places");
+    for (name, far, which) in
+        [("the runner", all.as_str(), 0), ("the judge", "to a 65th commit", 2), ("the sheet", all.as_str(), 4)]
+    {
         let needed = programs::beside([paths[which], paths[which + 1]], schedule);
         let count = [of_programs[which], of_programs[which + 1]];
         line("32, 16", &format!("{name}, {far}, whole program"), count, needed.map(|needed| needed.nanoseconds));
@@ -69,8 +72,8 @@ fn main() {
         ["rows"] => sides::counted(&rows::all()),
         ["schedule", file] => fs::write(file, programs::largest()).expect("the schedule is written"),
         ["memory", program, schedule] => println!("{}", programs::memory(program, schedule)),
-        ["table", counts, schedule, runner, reference_runner, judge, reference_judge] => {
-            table(counts, schedule, [runner, reference_runner, judge, reference_judge])
+        ["table", counts, schedule, ref programs @ ..] if programs.len() == 6 => {
+            table(counts, schedule, programs.try_into().expect("six of them"))
         }
         _ => panic!("rows, schedule, memory or table"),
     }

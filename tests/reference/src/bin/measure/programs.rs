@@ -1,5 +1,5 @@
 //! Whole programs on the largest schedule: how long they take, and how much memory at most. Ours and the reference's take turns, so
-//! that whatever else the machine does meets both.
+//! that whatever else the machine does meets both. Runners and judges read standard input, sheets the file of a name: all get both.
 use reference::random::Random;
 use reference::schedule::LONGEST;
 use reference::{generate, schedule};
@@ -8,9 +8,10 @@ use std::process::{Command, Stdio};
 use std::time::Instant;
 use std::{env, fs};
 
-/// A schedule of 65,535 bytes with 32 cells and 16 handlers.
+/// A schedule of 65,535 bytes with 32 cells and 16 handlers. No transaction in it gives up, so that it is the one that was measured
+/// before there was such a step.
 pub fn largest() -> Vec<u8> {
-    generate::of_length(&mut Random::new(1923), 32, 16, LONGEST).file()
+    generate::of_length(&mut Random::new(1923), 32, 16, LONGEST, None).file()
 }
 
 /// What a program needed: nanoseconds of the quickest run, and the most memory in KiB.
@@ -31,7 +32,7 @@ extern "C" {
 pub fn memory(program: &str, file: &str) -> i64 {
     let input = fs::File::open(file).expect("the schedule is there");
     let mut command = Command::new(program);
-    command.stdin(input).stdout(Stdio::null());
+    command.arg(file).stdin(input).stdout(Stdio::null());
     // SAFETY: the hook does nothing.
     unsafe { command.pre_exec(|| Ok(())) };
     let process = command.spawn().expect("the program starts").id() as i32;
@@ -54,7 +55,7 @@ fn peak(program: &str, file: &str) -> u64 {
 fn once(program: &str, file: &str) -> (Vec<u8>, f64) {
     let input = fs::File::open(file).expect("the schedule is there");
     let began = Instant::now();
-    let output = Command::new(program).stdin(input).stderr(Stdio::inherit()).output().expect("the program starts");
+    let output = Command::new(program).arg(file).stdin(input).stderr(Stdio::inherit()).output().expect("the program starts");
     assert!(output.status.success(), "{program} fails");
     (output.stdout, began.elapsed().as_nanos() as f64)
 }

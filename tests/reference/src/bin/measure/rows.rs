@@ -24,6 +24,7 @@ pub const SIZES: [(u32, u32); 3] = [(2, 2), (8, 4), (32, 16)];
 
 const BEGIN: u32 = steps::BEGIN.code as u32;
 const TRY: u32 = steps::TRY.code as u32;
+const GIVE_UP: u32 = steps::GIVE_UP.code as u32;
 const TOO_LARGE: u32 = 65_536;
 
 /// The code that reads a cell.
@@ -123,6 +124,7 @@ fn taken(lived: &State) -> Vec<Row> {
         state().begun(&[read(0)]).commit(&[0, x]).step("read, abort 1", read(x), Reply::Abort(1)),
         state().begun(&[read(x)]).commit(&[x]).step("try, abort 2", TRY, Reply::Abort(2)),
         state().begun(&[write(x)]).with(own, 65_535).step("try, abort 3", TRY, Reply::Abort(3)),
+        state().begun(&all).step("give up, abort 5", GIVE_UP, Reply::Abort(5)),
     ]
 }
 
@@ -145,7 +147,7 @@ fn refused(lived: &State) -> Vec<Row> {
     }
     rows.push(state().begun(&[]).step("refused 13", BEGIN, Reply::Refused(13)));
     rows.push(state().step("refused 14", TRY, Reply::Refused(14)));
-    rows.push(state().step("refused 15", 2, Reply::Refused(15)));
+    rows.push(state().step("refused 15", 3, Reply::Refused(15)));
     rows
 }
 

@@ -11,8 +11,8 @@ use crate::steps::is_write;
 /// A code that stands for no step, often next to those that do.
 fn any_unknown_code(random: &mut Random) -> u8 {
     match random.below(3) {
-        0 => random.one_of(&[2, 31, 96, 255]),
-        1 => random.within(2, 31) as u8,
+        0 => random.one_of(&[3, 31, 96, 255]),
+        1 => random.within(3, 31) as u8,
         _ => random.within(96, 255) as u8,
     }
 }
