@@ -1,6 +1,7 @@
-//! The register in plain Rust with no dependencies, written from the rules of docs/RULES.md alone, never from the proved code:
-//! its words and steps, the schedule file and its run, the duty sheet, and the judge, which works from the history. The proved programs are
-//! compared with them, word for word and line for line, on directed and on random schedules.
+//! The register in plain Rust with no dependencies, written from the rules of docs/RULES.md and not from the proved code: its words and
+//! steps, the schedule file and its run, and the judge, which works from the history; and the duty sheet, of which docs/ASSURANCE.md says
+//! how far it is independent. The proved programs are compared with them, word for word and line for line, on directed and on random
+//! schedules.
 pub mod counts;
 pub mod course;
 pub mod directed;
