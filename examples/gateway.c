@@ -1,13 +1,15 @@
 // A depot with two sites and one register: cell 0 says which mast stands at the north site, cell 1 which at the south site, 0 for
 // none. The desk and two feed handlers share it. The desk brings the northern mast to the south site; while it does, the north feed
 // reports another mast there, so the desk's try is aborted, and the desk begins anew until it commits. Then the south feed begins to
-// report a mast that drops off the air: it gives up, and nothing of its report is kept.
+// report a mast that drops off the air: it gives up, and nothing of its report is kept. At last its line is up again, and the reports that
+// have gathered come as a burst: all of their steps are taken in one call.
 #include "zidlemowo.h"
 
 #include <inttypes.h>
 #include <stdbool.h>
 #include <stdio.h>
 #include <stdlib.h>
+#include <string.h>
 
 // The cells.
 enum { NORTH, SOUTH, SITES };
@@ -104,6 +106,35 @@ static void drop_off(struct depot *depot, uint32_t mast) {
     printf("south feed: abort %" PRIu32 "\n", zidlemowo_detail(give_up(depot, SOUTH_FEED)));
 }
 
+// The masts that the south feed reports in a burst, one after another, and the steps of each report.
+static const uint32_t gathered[] = {3, 5, 8};
+enum { REPORTED = sizeof gathered / sizeof gathered[0], STEPS = 3 * REPORTED };
+
+// The south feed reports all of them in one call: three transactions, in each of which it begins, writes and tries. Nobody else's step
+// comes between, and nothing is read, so that each of them commits.
+static void burst(struct depot *depot) {
+    uint32_t row[STEPS * ZIDLEMOWO_STEP_WORDS], reports[STEPS * ZIDLEMOWO_REPORT_WORDS];
+    size_t length = 0;
+    for (size_t k = 0; k < REPORTED; k++) {
+        const uint32_t steps[] = {SOUTH_FEED, ZIDLEMOWO_BEGIN,            0,           // handler, code, value
+                                  SOUTH_FEED, zidlemowo_write_code(SOUTH), gathered[k], //
+                                  SOUTH_FEED, ZIDLEMOWO_TRY,              0};
+        memcpy(row + length, steps, sizeof steps);
+        length += sizeof steps / sizeof steps[0];
+    }
+    const uint32_t refusal = zidlemowo_row(depot->words, LENGTH, row, length, reports, sizeof reports / sizeof reports[0], 0);
+    if (refusal != 0) {
+        fprintf(stderr, "burst: %s\n", zidlemowo_refusal_text(refusal));
+        exit(EXIT_FAILURE);
+    }
+    printf("south feed: %d steps in one call\n", STEPS);
+    for (size_t k = 0; k < REPORTED; k++) {
+        const uint32_t *tried = reports + (3 * k + 2) * ZIDLEMOWO_REPORT_WORDS;
+        printf("south feed: mast %" PRIu32 " stands here: %s\n", gathered[k],
+               zidlemowo_text(tried[ZIDLEMOWO_REPORT_KIND], tried[ZIDLEMOWO_REPORT_DETAIL]));
+    }
+}
+
 // The south feed looks at both sites in one transaction.
 static uint64_t look(struct depot *depot) {
     begin(depot, SOUTH_FEED);
@@ -134,6 +165,7 @@ int main(void) {
         meanwhile = 0;
     }
     drop_off(&depot, 4);
+    burst(&depot);
     while (again("south feed", look(&depot))) {
     }
     return EXIT_SUCCESS;

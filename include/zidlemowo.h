@@ -1,4 +1,4 @@
-// The proved register for programs in C11 and C++17: three functions on words that the caller lends, two that run a whole schedule
+// The proved register for programs in C11 and C++17: four functions on words that the caller lends, two that run a whole schedule
 // file, and one that counts the replies of such runs in a duty sheet.
 //
 // A register has m cells (1 to 32) and n handlers (1 to 16). A handler runs one transaction at a time, in five steps: begin, read a
@@ -21,17 +21,19 @@
 //
 // Threads. No function takes a lock, and none keeps anything outside the words. One register takes one step at a time: two calls on
 // the same words must not overlap, an opening among them, and nothing else may read or write the words during a call. Calls on
-// different words, or into different outputs, may overlap. A sheet's words are as a register's in all of this.
+// different words, or into different outputs, may overlap. A sheet's words are as a register's in all of this, and so are those of a
+// row's reports. A row of steps is one call: no other handler's step comes between its own.
 #ifndef ZIDLEMOWO_H
 #define ZIDLEMOWO_H
 
 #include <stddef.h> // size_t: how many words or bytes are lent
 #include <stdint.h> // uint32_t: a word; uint64_t: the reply to a step; uint8_t: a byte of a file or of a text
 
-// The version of this header and its library: of its functions, its numbers, and the layout of a register's words and a sheet's.
-#define ZIDLEMOWO_VERSION "0.2.0"
+// The version of this header and its library: of its functions, its numbers, and the layout of the words of a register, a row and a
+// sheet.
+#define ZIDLEMOWO_VERSION "0.3.0"
 #define ZIDLEMOWO_VERSION_MAJOR 0 // the parts, for the preprocessor
-#define ZIDLEMOWO_VERSION_MINOR 2
+#define ZIDLEMOWO_VERSION_MINOR 3
 #define ZIDLEMOWO_VERSION_PATCH 0
 
 #ifdef __cplusplus
@@ -44,6 +46,8 @@ enum {
     ZIDLEMOWO_MOST_HANDLERS = 16,     // the most handlers: n is 1 to 16
     ZIDLEMOWO_MOST_WORDS = 2642,      // the words of the largest register, m = 32 and n = 16
     ZIDLEMOWO_MOST_NUMBER = 65535,    // the largest number of a cell, a handler or a transaction
+    ZIDLEMOWO_STEP_WORDS = 3,         // the words of a step in a row: handler, code, value
+    ZIDLEMOWO_REPORT_WORDS = 4,       // the words of a step's report: handler, code, kind, detail
     ZIDLEMOWO_MOST_FILE = 65535,      // the most bytes of a schedule file: a longer one is refused with 30
     ZIDLEMOWO_MOST_PRINTED = 2230434, // no text of a whole run has more bytes, whatever the file
     ZIDLEMOWO_SHEET_WORDS = 96,       // the words of a duty sheet: a row for each of 16 handlers, however many a file has
@@ -64,6 +68,21 @@ enum {
     ZIDLEMOWO_READ = 32,     // 32 to 63 read cell (code - 32): this is cell 0's, zidlemowo_read_code gives any cell's
     ZIDLEMOWO_WRITE = 64,    // 64 to 95 write cell (code - 64): this is cell 0's, zidlemowo_write_code gives any cell's
     ZIDLEMOWO_NO_CODE = 256, // stands for no step, being above 255: what a cell that no code names, 32 or above, gets
+};
+
+// Where each word of a step stands in a row, from the step's first one on.
+enum {
+    ZIDLEMOWO_STEP_HANDLER = 0, // the handler whose step it is
+    ZIDLEMOWO_STEP_CODE = 1,    // the step code
+    ZIDLEMOWO_STEP_VALUE = 2,   // what a write writes; no other step looks at it
+};
+
+// Where each word of a report stands, from the report's first one on.
+enum {
+    ZIDLEMOWO_REPORT_HANDLER = 0, // the step's handler, as it was given
+    ZIDLEMOWO_REPORT_CODE = 1,    // the step's code, as it was given, also above 255
+    ZIDLEMOWO_REPORT_KIND = 2,    // the kind of the reply
+    ZIDLEMOWO_REPORT_DETAIL = 3,  // its detail: the value read, the reason of an abort, the refusal, or 0
 };
 
 // Kinds of reply to a step.
@@ -94,10 +113,11 @@ enum {
     ZIDLEMOWO_SHEET_GAVE_UP = 5,   // transactions aborted by reason 5
 };
 
-// Refusals. A step is checked in the order 10, 15, 11, 12, then 13 or 14; an opening in the order 20, 21; a file for a sheet in the
-// order 21, 30, 15, 41. The first that holds is given. 30, 32 and 33 stand in the texts of whole runs; of these, a sheet gives 30.
+// Refusals. A step is checked in the order 10, 15, 11, 12, then 13 or 14; a row in the order 10, 42; an opening in the order 20, 21; a
+// file for a sheet in the order 21, 30, 15, 41. The first that holds is given. 30, 32 and 33 stand in the texts of whole runs; of these,
+// a sheet gives 30.
 enum {
-    ZIDLEMOWO_NOT_WELL_FORMED = 10,  // a step: the words are no well-formed register, or too short for one
+    ZIDLEMOWO_NOT_WELL_FORMED = 10,  // a step or a row: the words are no well-formed register, or too short for one
     ZIDLEMOWO_NO_HANDLER = 11,       // a step: handler n or above
     ZIDLEMOWO_NO_CELL = 12,          // a step: read or write of cell m or above
     ZIDLEMOWO_ALREADY_OPEN = 13,     // a step: begin while open
@@ -109,6 +129,7 @@ enum {
     ZIDLEMOWO_USED_UP = 32,          // an order place: the handler's script is used up
     ZIDLEMOWO_TOO_MANY_COMMITS = 33, // the judge: a try that would be the 65th commit
     ZIDLEMOWO_SHEET_FULL = 41,       // a sheet: it holds a count above 4,294,000,000
+    ZIDLEMOWO_NO_ROOM = 42,          // a row: its reports would pass the end of the words for them
 };
 
 // The words that a register of m cells and n handlers needs; 0 where m or n is out of range.
@@ -121,6 +142,24 @@ uint32_t zidlemowo_open(uint32_t *words, size_t length, uint32_t m, uint32_t n);
 // Takes the step of a handler (0 to n - 1) on the register in front of `length` words. `value` is what a write writes; no other
 // step looks at it. Gives kind * 2^32 + detail, which zidlemowo_kind and zidlemowo_detail take apart.
 uint64_t zidlemowo_step(uint32_t *words, size_t length, uint32_t handler, uint32_t code, uint32_t value);
+
+// Takes a row of steps, one after another, on the register in front of `length` words, and reports each. The replies, and the words that
+// are left, are those of the same steps by zidlemowo_step; but the words are tested once, and not before each step. So a burst of many
+// steps costs far less than as many calls.
+//
+// `steps` are ZIDLEMOWO_STEP_WORDS words for each step: its handler, its code and its value. Words of a last step that is cut short are
+// ignored. From word `place` of `reports` on each step has its ZIDLEMOWO_REPORT_WORDS words, in the order of the steps: its handler and its
+// code as they were given, and the kind and the detail of its reply. A step that is refused is reported too, as ZIDLEMOWO_REFUSED
+// with the refusal, and the row goes on. The words of `reports` in front of the place and behind the last report are never changed.
+//
+// Gives 0, or the refusal, which changes nothing: ZIDLEMOWO_NOT_WELL_FORMED, or ZIDLEMOWO_NO_ROOM exactly where the place and
+// ZIDLEMOWO_REPORT_WORDS for each step come to more than `reports_length`. The sum wraps for no place, and a place beyond the end is refused
+// also where there is no step. Both are found before the first step. The number and every word of all three are proved, for any words,
+// steps and place.
+//
+// The steps are read only, and no two of the three may overlap; each may be NULL where its length is 0.
+uint32_t zidlemowo_row(uint32_t *words, size_t length, const uint32_t *steps, size_t steps_length, uint32_t *reports,
+                       size_t reports_length, size_t place);
 
 // Runs a whole schedule file from a fresh register, and gives the text that the program `runner` prints of it: a header, a line for
 // each order place and one for each cell, or the one line of a refused file. It is as with snprintf, but for the byte 0 at the end,
@@ -180,7 +219,7 @@ static inline const char *zidlemowo_reason_text(uint32_t reason) {
     }
 }
 
-// A refusal in words, for a log: that of a step, or the number that an opening or a sheet gives where it is not 0.
+// A refusal in words, for a log: that of a step, or the number that a row, an opening or a sheet gives where it is not 0.
 static inline const char *zidlemowo_refusal_text(uint32_t refusal) {
     switch (refusal) {
     case ZIDLEMOWO_NOT_WELL_FORMED: return "the words are no well-formed register, or too few for one";
@@ -195,6 +234,7 @@ static inline const char *zidlemowo_refusal_text(uint32_t refusal) {
     case ZIDLEMOWO_USED_UP: return "the script of this handler is used up";
     case ZIDLEMOWO_TOO_MANY_COMMITS: return "the judge notes 64 commits, and this would be the 65th";
     case ZIDLEMOWO_SHEET_FULL: return "a count of the sheet is above 4,294,000,000";
+    case ZIDLEMOWO_NO_ROOM: return "too few words for the reports of this row";
     default: return zidlemowo_no_text();
     }
 }

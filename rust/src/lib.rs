@@ -50,6 +50,22 @@
 //! A transaction that was begun step by step stays open until a step ends it, and a later [`Register::try_commit`] commits what it
 //! wrote: whoever abandons one calls [`Register::give_up`].
 //!
+//! # Many steps in one call
+//!
+//! Before each step all words of the register are tested. A burst of steps is far cheaper as a [`Row`], for which that is done once:
+//!
+//! ```
+//! use zidlemowo::{Register, Reply, Row, Step};
+//!
+//! let mut register = Register::new(2, 2)?;
+//! let burst: Row = (0..3).flat_map(|mast| [(1, Step::Begin), (1, Step::Write(0, 17 + mast)), (1, Step::Try)]).collect();
+//! let reports = register.row(&burst)?;
+//! assert!(reports.iter().all(|report| matches!(report.reply, Reply::Done | Reply::Committed)));
+//! # Ok::<(), zidlemowo::Refusal>(())
+//! ```
+//!
+//! # Whole files
+//!
 //! A whole schedule file is run at once by [`run`] and judged by [`judge`], which give what the programs print of it. A [`Sheet`] counts
 //! over many files what each handler began, committed and had aborted.
 #![deny(missing_docs, unsafe_code)]
@@ -59,6 +75,7 @@ mod raw;
 mod reasons;
 mod register;
 mod replies;
+mod row;
 mod runs;
 mod shared;
 mod sheet;
@@ -68,6 +85,7 @@ mod transact;
 pub use reasons::{Abort, Refusal};
 pub use register::{needed, Register};
 pub use replies::Reply;
+pub use row::{Report, Row};
 pub use runs::{judge, judge_into, run, run_into, MOST_PRINTED};
 pub use shared::Shared;
 pub use sheet::{Counts, Sheet};

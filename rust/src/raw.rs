@@ -7,6 +7,15 @@ extern "C" {
     fn zidlemowo_length(m: u32, n: u32) -> u32;
     fn zidlemowo_open(words: *mut u32, long: usize, m: u32, n: u32) -> u32;
     fn zidlemowo_step(words: *mut u32, long: usize, handler: u32, code: u32, value: u32) -> u64;
+    fn zidlemowo_row(
+        words: *mut u32,
+        long: usize,
+        steps: *const u32,
+        steps_long: usize,
+        reports: *mut u32,
+        reports_long: usize,
+        place: usize,
+    ) -> u32;
     fn zidlemowo_run(file: *const u8, file_long: usize, output: *mut u8, output_long: usize) -> usize;
     fn zidlemowo_judge(file: *const u8, file_long: usize, output: *mut u8, output_long: usize) -> usize;
     fn zidlemowo_sheet(counts: *mut u32, long: usize, file: *const u8, file_long: usize) -> u32;
@@ -28,6 +37,13 @@ pub fn open(words: &mut [u32], m: u32, n: u32) -> u32 {
 pub fn step(words: &mut [u32], handler: u32, code: u32, value: u32) -> u64 {
     // SAFETY: pointer and length are those of one slice that is lent for the call alone.
     unsafe { zidlemowo_step(words.as_mut_ptr(), words.len(), handler, code, value) }
+}
+
+/// Takes a row of steps, three words each, and reports them from the place on, four words each: 0, or the refusal's number.
+pub fn row(words: &mut [u32], steps: &[u32], reports: &mut [u32], place: usize) -> u32 {
+    let (long, steps_long, reports_long) = (words.len(), steps.len(), reports.len());
+    // SAFETY: each pointer and length are those of one slice that is lent for the call alone.
+    unsafe { zidlemowo_row(words.as_mut_ptr(), long, steps.as_ptr(), steps_long, reports.as_mut_ptr(), reports_long, place) }
 }
 
 /// Runs a file: the length of what the runner prints of it, which is put into the output as far as it fits.

@@ -74,7 +74,7 @@ impl fmt::Display for Abort {
 impl Error for Abort {}
 
 /// Why something was refused. Nothing is changed by it. 30, 32, 33 and 41 are of schedule files, the judge and the duty sheet; no
-/// register gives them.
+/// register gives them. 42 is of a whole row, and no step's.
 ///
 /// ```
 /// use zidlemowo::Refusal;
@@ -107,15 +107,17 @@ pub enum Refusal {
     TooManyCommits = 33,
     /// A duty sheet that already holds a count above 4,294,000,000.
     SheetFull = 41,
+    /// A row whose reports would pass the end of the words for them.
+    NoRoom = 42,
 }
 
 impl Refusal {
     /// Every refusal.
     ///
     /// ```
-    /// assert_eq!(zidlemowo::Refusal::ALL.len(), 12);
+    /// assert_eq!(zidlemowo::Refusal::ALL.len(), 13);
     /// ```
-    pub const ALL: [Refusal; 12] = [
+    pub const ALL: [Refusal; 13] = [
         Refusal::NotWellFormed,
         Refusal::NoHandler,
         Refusal::NoCell,
@@ -128,6 +130,7 @@ impl Refusal {
         Refusal::UsedUp,
         Refusal::TooManyCommits,
         Refusal::SheetFull,
+        Refusal::NoRoom,
     ];
 
     /// The refusal's number.
@@ -151,7 +154,7 @@ impl Refusal {
         Refusal::ALL.into_iter().find(|refusal| refusal.number() == number)
     }
 
-    /// What the number that an opening or a duty sheet gives comes to.
+    /// What the number that an opening, a row or a duty sheet gives comes to.
     pub(crate) fn of_number(number: u32) -> Result<(), Refusal> {
         match number {
             0 => Ok(()),
@@ -178,6 +181,7 @@ impl Refusal {
             Refusal::UsedUp => "the script of this handler is used up",
             Refusal::TooManyCommits => "the judge notes 64 commits, and this would be the 65th",
             Refusal::SheetFull => "a count of the sheet is above 4,294,000,000",
+            Refusal::NoRoom => "too few words for the reports of this row",
         }
     }
 }

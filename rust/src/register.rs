@@ -2,6 +2,7 @@
 use crate::raw;
 use crate::reasons::{Abort, Refusal};
 use crate::replies::Reply;
+use crate::row::{Report, Row};
 use crate::step::Step;
 use crate::transact::{self, NotCommitted, Transaction};
 
@@ -114,11 +115,15 @@ impl<'a> Register<'a> {
     /// # Ok::<(), Refusal>(())
     /// ```
     pub fn step(&mut self, handler: u32, code: u32, value: u32) -> Reply {
-        let words = match &mut self.words {
+        Reply::of_step(raw::step(self.lent(), handler, code, value))
+    }
+
+    /// The words, to be changed by a proved function.
+    fn lent(&mut self) -> &mut [u32] {
+        match &mut self.words {
             Words::Own(words) => words,
-            Words::Lent(words) => &mut **words,
-        };
-        Reply::of_step(raw::step(words, handler, code, value))
+            Words::Lent(words) => words,
+        }
     }
 
     /// Takes a step. A read or a write of cell m or above is refused with 12, and of cell 32 or above, which no code names, with 15.
@@ -136,6 +141,43 @@ impl<'a> Register<'a> {
     /// ```
     pub fn take(&mut self, handler: u32, step: Step) -> Reply {
         self.step(handler, step.code(), step.value())
+    }
+
+    /// Takes a row of steps in one call, and gives the report of each, in their order. A step that is refused is reported too, and the
+    /// row goes on. The row itself is refused with 10 where the words are no register; then no step is taken.
+    ///
+    /// ```
+    /// use zidlemowo::{Refusal, Register, Reply, Row, Step};
+    ///
+    /// let mut register = Register::new(2, 1)?;
+    /// let row = Row::from([(0, Step::Begin), (0, Step::Read(31)), (0, Step::Write(0, 5)), (0, Step::Try)]);
+    /// let replies: Vec<Reply> = register.row(&row)?.iter().map(|report| report.reply).collect();
+    /// assert_eq!(replies, [Reply::Done, Reply::Refused(Refusal::NoCell), Reply::Done, Reply::Committed]);
+    /// assert_eq!(Register::resume(&mut []).row(&row), Err(Refusal::NotWellFormed));
+    /// # Ok::<(), Refusal>(())
+    /// ```
+    pub fn row(&mut self, row: &Row) -> Result<Vec<Report>, Refusal> {
+        let mut reports = vec![0; row.len() * Report::WORDS];
+        self.row_into(row.words(), &mut reports, 0)?;
+        Ok(Report::all(&reports))
+    }
+
+    /// Takes a row of steps as words, [three](Row::STEP_WORDS) each, and puts the reports, [four](Report::WORDS) words each, into words that
+    /// are lent, from the place on. A last step that is cut short is ignored. Refused with 10, or with 42 where the reports would
+    /// pass the end; then no step is taken and no word is changed.
+    ///
+    /// ```
+    /// use zidlemowo::{Refusal, Register};
+    ///
+    /// let mut register = Register::new(2, 1)?;
+    /// let mut reports = [9; 10];
+    /// register.row_into(&[0, 0, 0, 0, 300, 0], &mut reports, 1)?;
+    /// assert_eq!(reports, [9, 0, 0, 0, 0, 0, 300, 4, 15, 9]);
+    /// assert_eq!(register.row_into(&[0, 1, 0], &mut reports, 7), Err(Refusal::NoRoom));
+    /// # Ok::<(), Refusal>(())
+    /// ```
+    pub fn row_into(&mut self, steps: &[u32], reports: &mut [u32], place: usize) -> Result<(), Refusal> {
+        Refusal::of_number(raw::row(self.lent(), steps, reports, place))
     }
 
     /// Begins a transaction of the handler.

@@ -1,11 +1,13 @@
 //! A register that several threads, or several parts of a program, have at once: each step is taken alone.
+use crate::reasons::Refusal;
 use crate::register::Register;
 use crate::replies::Reply;
+use crate::row::{Report, Row};
 use crate::step::Step;
 use crate::transact::{self, NotCommitted, Transaction};
 use std::sync::{Mutex, MutexGuard, PoisonError};
 
-/// A register behind a lock that is held for one step at a time, so that handlers take turns.
+/// A register behind a lock that is held for one step, or one row of steps, at a time, so that handlers take turns.
 ///
 /// ```
 /// use zidlemowo::{Register, Shared, Stopped};
@@ -84,6 +86,21 @@ impl<'a> Shared<'a> {
     /// ```
     pub fn take(&self, handler: u32, step: Step) -> Reply {
         self.lock().take(handler, step)
+    }
+
+    /// Takes a row of steps, as [`Register::row`] does: no other step comes between them.
+    ///
+    /// ```
+    /// # use zidlemowo::{Register, Shared};
+    /// use zidlemowo::{Reply, Row, Step};
+    ///
+    /// let shared = Shared::new(Register::new(2, 1)?);
+    /// let reports = shared.row(&Row::from([(0, Step::Begin), (0, Step::Try)]))?;
+    /// assert_eq!(reports[1].reply, Reply::Committed);
+    /// # Ok::<(), zidlemowo::Refusal>(())
+    /// ```
+    pub fn row(&self, row: &Row) -> Result<Vec<Report>, Refusal> {
+        self.lock().row(row)
     }
 
     /// Runs a closure as one transaction, as [`Register::transact`] does; but other handlers may step while it runs, so that it

@@ -1,7 +1,8 @@
 // What the two ends of the relay say to each other, over two pipes, one call at a time.
 //
-// A request is a `struct request`, the bytes that the function may only read, and those that it may change. The reply is the
-// function's number as a uint64_t, and the changeable bytes as they are afterwards, all of them. Both processors are little-endian.
+// A request is a `struct request`, the bytes that the function may only read, and those that it may change, which lie in one or two
+// places. The reply is the function's number as a uint64_t, and the changeable bytes as they are afterwards, all of them. Both processors
+// are little-endian.
 #ifndef MESSAGE_H
 #define MESSAGE_H
 
@@ -12,11 +13,11 @@
 #include <unistd.h>
 
 // The functions of zidlemowo.h.
-enum { LENGTH, OPEN, STEP, RUN, JUDGE, SHEET };
+enum { LENGTH, OPEN, STEP, ROW, RUN, JUDGE, SHEET };
 
 // A call: which function, how many bytes follow of each kind, and its numbers in their order, 0 where it has fewer.
 struct request {
-    uint64_t function, read_only, changeable;
+    uint64_t function, read_only, changeable[2];
     uint64_t numbers[3];
 };
 

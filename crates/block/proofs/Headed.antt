@@ -1,19 +1,19 @@
 -- A block at a transaction's begin and at its end. It is written from the front: three words, the handler's numbers, and what is
 -- behind them, which leaves the front as it was.
 use Prim.Native.Nat.{ℕ, _+_, _*_, _≤_, _<_}
-use mathlib.Core.Path.{_≡_, sym, ap, _∙_, subst}
-use mathlib.Core.Bool.{Bool, true, false}
+use mathlib.Core.Path.{_≡_, sym, ap, _∙_}
 use mathlib.Core.List.{List}
 use native.Mathlib.Omega.{arith}
 use lib.ListN.{length, getD, set}
 use Rattle.rules.specs.steps.Register.{Handler, noCells, zeros, idle}
 use Rattle.rules.specs.steps.Figure.{begun}
-use Rattle.layout.specs.Places.{handlerLong, phaseIn, readSetIn, writtenSetIn, handlerNumberIn, transactionNumberIn, copyIn}
+use Rattle.layout.specs.Places.{handlerLong, phaseIn, readSetIn, writtenSetIn, handlerNumberIn, transactionFrom}
+use Rattle.layout.specs.Places.{transactionNumberIn, copyIn}
 use Rattle.layout.specs.View.{wordSetting, viewHandler, pourHandler}
 use Rattle.layout.proofs.Bits.{mask-none}
-use Rattle.layout.proofs.Rows.{below-inside}
-use Rattle.layout.proofs.Blocks.{HoldsHandler, handler-is, poured-handler}
-use Rattle.layout.specs.Rows.{Untouched}
+use Rattle.layout.proofs.Rows.{below-inside, below-is, below-beyond}
+use Rattle.layout.proofs.Blocks.{handler-is}
+use Rattle.layout.specs.Rows.{Untouched, below}
 use Rattle.words.specs.Rows.{Changed}
 use Rattle.block.proofs.Stores.{Stored, stored}
 
@@ -109,19 +109,13 @@ module _ {m : ℕ} {block : List ℕ} where
       (λ y l. clears .untouched .below (3 + m + y) (omega arith) ∙ copies .inside y l ∙ head .numbers y l)
       (clears .inside)
 
-  -- A commit: a block at rest takes other numbers.
-  pub settles : {table : ℕ → ℕ} {after : List ℕ} (numbers : ℕ → ℕ) → block ≡ pourHandler m (idle (wordSetting m) numbers)
-      → Changed 3 m table block after → after ≡ pourHandler m (idle (wordSetting m) table)
-  unfolding idle
-  settles {after = after} numbers rested takes = handler-is m _ after (record {
-    size = takes .untouched .size ∙ holds .size;
-    phase = takes .untouched .below 0 (omega arith) ∙ holds .phase;
-    readSet = takes .untouched .below 1 (omega arith) ∙ holds .readSet;
-    writtenSet = takes .untouched .below 2 (omega arith) ∙ holds .writtenSet;
-    numbers = takes .inside;
-    transaction = λ y h. takes .untouched .above (3 + m + y) (omega arith) ∙ holds .transaction y h;
-    copies = λ y h. takes .untouched .above (3 + 2 * m + y) (omega arith) ∙ holds .copies y h;
-  })
-    where
-      holds : HoldsHandler m (idle (wordSetting m) numbers) block
-      holds = subst (HoldsHandler m (idle (wordSetting m) numbers)) (sym rested) (poured-handler m _)
+-- A commit: with the transaction's numbers copied to the handler's place, the handler's numbers are the transaction's.
+pub settles : {m from : ℕ} {block after : List ℕ} → from ≡ transactionFrom m → Changed 3 m (λ y. getD block (from + y) 0) block after
+    → viewHandler m after .numbers ≡ viewHandler m block .transaction
+unfolding viewHandler
+settles {m} {from} {block} {after} placed copies =
+    below-is m 0 (handlerNumberIn after) (below m 0 (transactionNumberIn m block)) same (below-beyond m 0 (transactionNumberIn m block))
+  where
+    same : (y : ℕ) → y < m → handlerNumberIn after y ≡ below m 0 (transactionNumberIn m block) y
+    same y h =
+        copies .inside y h ∙ ap (λ place. getD block (place + y) 0) placed ∙ sym (below-inside m 0 (transactionNumberIn m block) y h)

@@ -1,20 +1,17 @@
--- A write and a first read, store by store: a block of an open handler, which holds it, holds afterwards the handler that the
--- rules say.
+-- A write and a read that joins, store by store: a block of an open handler, which holds it, holds afterwards the handler with
+-- the cell in its set.
 use Prim.Native.Nat.{ℕ, _+_, _*_, _<_, max}
-use mathlib.Core.Path.{_≡_, ap, ap₂, _∙_}
-use mathlib.Core.Bool.{Bool}
+use mathlib.Core.Path.{_≡_, ap, _∙_}
 use mathlib.Core.List.{List}
 use native.Mathlib.Omega.{arith}
 use lib.ListN.{getD}
-use Rattle.rules.specs.steps.Tables.{if_then_else_}
-use Rattle.rules.specs.steps.Register.{Cell, Handler}
-use Rattle.rules.specs.steps.Figure.{joined, taken, wrote}
-use Rattle.layout.specs.Bits.{hasBit, withBit}
-use Rattle.layout.specs.Places.{phaseIn, readSetIn, writtenSetIn}
-use Rattle.layout.proofs.Bits.{has-mask}
+use Rattle.rules.specs.steps.Register.{Handler}
+use Rattle.rules.specs.steps.Figure.{wrote}
+use Rattle.layout.specs.Bits.{withBit}
+use Rattle.layout.specs.Places.{phaseIn, readSetIn, writtenSetIn, transactionNumberIn}
 use Rattle.layout.proofs.Blocks.{HoldsHandler}
 use Rattle.words.specs.Rows.{Changed}
-use Rattle.block.specs.Blocks.{rowTable, rowCell, raisedBy}
+use Rattle.block.specs.Blocks.{rowTable, joinedWith}
 use Rattle.block.proofs.Stores.{Stored, stored-row, set-joins}
 
 module _ {m : ℕ} {h : Handler ℕ} {block : List ℕ} (holds : HoldsHandler m h block) (opened : phaseIn block ≡ 1) where
@@ -37,42 +34,29 @@ module _ {m : ℕ} {h : Handler ℕ} {block : List ℕ} (holds : HoldsHandler m 
         other : (k : ℕ) → (k ≡ 2 → ⊥) → (k ≡ 3 + 2 * m + x → ⊥) → getD after k 0 ≡ getD block k 0
         other k set copy = writes .other k set ∙ copies .other k copy
 
-    -- A first read stores the cell's own number, and then the read set with one cell more.
-    pub joined-held : {word : ℕ} {noted after : List ℕ} (c : Cell ℕ) → Stored (3 + m + x) (c .numbers x) block noted
-        → word ≡ withBit (readSetIn block) x → Stored 1 word noted after → HoldsHandler m (joined h x c) after
-    unfolding joined
-    joined-held {after = after} c notes joins writes = record {
-      size = writes .size ∙ notes .size ∙ holds .size;
-      phase = other 0 (omega arith) (omega arith) ∙ opened;
-      readSet = writes .here ∙ joins ∙ ap (λ set. withBit set x) (holds .readSet) ∙ set-joins m x (h .readSet) inside;
-      writtenSet = other 2 (omega arith) (omega arith) ∙ holds .writtenSet;
-      numbers = λ y l. other (3 + y) (omega arith) (omega arith) ∙ holds .numbers y l;
-      transaction = λ y l. writes .other (3 + m + y) (omega arith)
-          ∙ stored-row (3 + m) x (h .transaction) notes (holds .transaction) y l;
-      copies = λ y l. other (3 + 2 * m + y) (omega arith) (omega arith) ∙ holds .copies y l;
+    -- A read that joins raises the numbers, stores the cell's own, then the read set with one cell more, and then the copy.
+    pub joined-held : {value word : ℕ} {raised noted marked after : List ℕ} (row : List ℕ)
+        → Changed (3 + m) m (λ y. max (transactionNumberIn m block y) (rowTable row y)) block raised → Stored (3 + m + x) (rowTable row x) raised noted
+        → word ≡ withBit (readSetIn block) x → Stored 1 word noted marked → Stored (3 + 2 * m + x) value marked after
+        → HoldsHandler m (joinedWith h x value (rowTable row)) after
+    unfolding joinedWith
+    joined-held {raised = raised} {after = after} row raises notes joins marks copies = record {
+      size = copies .size ∙ marks .size ∙ notes .size ∙ raises .untouched .size ∙ holds .size;
+      phase = front 0 (omega arith) (omega arith) ∙ opened;
+      readSet = copies .other 1 (omega arith) ∙ marks .here ∙ joins ∙ ap (λ set. withBit set x) (holds .readSet)
+          ∙ set-joins m x (h .readSet) inside;
+      writtenSet = front 2 (omega arith) (omega arith) ∙ holds .writtenSet;
+      numbers = λ y l. front (3 + y) (omega arith) (omega arith) ∙ holds .numbers y l;
+      transaction = λ y l. copies .other (3 + m + y) (omega arith) ∙ marks .other (3 + m + y) (omega arith)
+          ∙ stored-row (3 + m) x (λ z. max (h .transaction z) (rowTable row z)) notes numbered y l;
+      copies = stored-row (3 + 2 * m) x (h .copies) copies
+          (λ y l. marks .other (3 + 2 * m + y) (omega arith) ∙ notes .other (3 + 2 * m + y) (omega arith)
+          ∙ raises .untouched .above (3 + 2 * m + y) (omega arith) ∙ holds .copies y l);
     }
       where
-        other : (k : ℕ) → (k ≡ 1 → ⊥) → (k ≡ 3 + m + x → ⊥) → getD after k 0 ≡ getD block k 0
-        other k set number = writes .other k set ∙ notes .other k number
+        front : (k : ℕ) → (k ≡ 1 → ⊥) → k < 3 + m → getD after k 0 ≡ getD block k 0
+        front k set low =
+            copies .other k (omega arith) ∙ marks .other k set ∙ notes .other k (omega arith) ∙ raises .untouched .below k low
 
-  -- It raises the transaction's numbers outside the read set, and then stores the copy.
-  pub taken-held : {raised after : List ℕ} (x value : ℕ) (row : List ℕ) → Changed (3 + m) m (raisedBy m block row) block raised
-      → Stored (3 + 2 * m + x) value raised after → HoldsHandler m (taken h x (rowCell value row)) after
-  unfolding taken raisedBy
-  taken-held {after = after} x value row raises copies = record {
-    size = copies .size ∙ raises .untouched .size ∙ holds .size;
-    phase = front 0 (omega arith) ∙ opened;
-    readSet = front 1 (omega arith) ∙ holds .readSet;
-    writtenSet = front 2 (omega arith) ∙ holds .writtenSet;
-    numbers = λ y l. front (3 + y) (omega arith) ∙ holds .numbers y l;
-    transaction = λ y l. copies .other (3 + m + y) (omega arith) ∙ raises .inside y l
-        ∙ ap₂ (λ (there : Bool) (held : ℕ). if there then held else (max held (rowTable row y))) (reads y l) (holds .transaction y l);
-    copies = stored-row (3 + 2 * m) x (h .copies) copies
-        (λ y l. raises .untouched .above (3 + 2 * m + y) (omega arith) ∙ holds .copies y l);
-  }
-    where
-      front : (k : ℕ) → k < 3 + m → getD after k 0 ≡ getD block k 0
-      front k l = copies .other k (omega arith) ∙ raises .untouched .below k l
-
-      reads : (y : ℕ) → y < m → hasBit (readSetIn block) y ≡ h .readSet y
-      reads y l = ap (λ set. hasBit set y) (holds .readSet) ∙ has-mask m (h .readSet) y l
+        numbered : (y : ℕ) → y < m → getD raised (3 + m + y) 0 ≡ max (h .transaction y) (rowTable row y)
+        numbered y l = raises .inside y l ∙ ap (λ held. max held (rowTable row y)) (holds .transaction y l)

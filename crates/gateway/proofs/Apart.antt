@@ -1,12 +1,12 @@
--- Nothing of an answer is lost in its number: a length, the answer to an opening, to a step and to a file for a sheet can each be told
--- from it.
+-- Nothing of an answer is lost in its number: a length, the answer to an opening, to a step, to a file for a sheet and to a row can each be
+-- told from it.
 use Prim.Native.Nat.{ℕ, _^_, _≤_, _<_}
 use native.Mathlib.Omega.{arith}
 use mathlib.Core.Path.{_≡_, refl, sym, ap}
 use mathlib.Core.Option.{none, some}
 use Rattle.rules.specs.steps.Replies.{torn, overtaken, spent, gaveUp, Outcome, ok, value, committed, aborted, Refusal, Reply, reported, Opening}
 use Rattle.rules.specs.steps.Replies.{ready, notWellFormed, noHandler, noCell, alreadyOpen, notOpen, unknownStep, outOfRange, tooShort}
-use Rattle.rules.specs.steps.Replies.{badFile, usedUp, tooManyCommits, sheetFull}
+use Rattle.rules.specs.steps.Replies.{badFile, usedUp, tooManyCommits, sheetFull, noRoom}
 use Rattle.rules.specs.steps.Replies.{Numbers, refusalNumber, outcomeNumbers, refusalNumbers, replyNumbers}
 use Rattle.rules.specs.demand.Demand.{reportedTo}
 use Rattle.rules.specs.steps.Checks.{inRange}
@@ -14,7 +14,7 @@ use Rattle.rules.proofs.steps.Tables.{by}
 use Rattle.rules.proofs.steps.Numbers.{Injective, refusals-apart, outcomes-apart, outcome-no-refusal}
 use Rattle.layout.specs.Places.{size}
 use Rattle.promises.specs.Lengths.{lengthFor}
-use Rattle.gateway.specs.Packed.{lengthNumber, openingNumber, packed, addedNumber}
+use Rattle.gateway.specs.Packed.{lengthNumber, openingNumber, packed, refusedNumber}
 
 -- ── Kind and detail ───────────────────────────────────────────────────
 
@@ -75,6 +75,7 @@ refusal-between badFile = omega arith
 refusal-between usedUp = omega arith
 refusal-between tooManyCommits = omega arith
 refusal-between sheetFull = omega arith
+refusal-between noRoom = omega arith
 
 -- What was answered can be told from the number.
 pub step-told : {handler code : ℕ} {a b : Reply ℕ} → AnswerTo handler code a → AnswerTo handler code b
@@ -90,7 +91,7 @@ step-told (stopped a) (stopped b) e =
     let same = packed-apart (refusalNumbers a) (refusalNumbers b) (refusal-between a .1) (refusal-between b .1) e in
     ap Reply.refused (refusals-apart a b (ap (λ n. n .detail) same))
 
--- ── An opening, a length, and a sheet ─────────────────────────────────
+-- ── An opening, a length, a sheet, and a row ──────────────────────────
 
 -- What an opening was answered can be told from its number.
 pub opening-told : Injective openingNumber
@@ -106,9 +107,9 @@ length-told m n e = by (inRange m n)
     (λ inside. let long : size m n ≡ 0 = rw inside at e in absurd (omega (arith, long)))
     (λ outside. rw outside)
 
--- What was answered to a file for a sheet can be told from its number.
-pub added-told : Injective addedNumber
-added-told none none e = refl
-added-told none (some b) e = absurd (omega (arith, e, refusal-between b .0))
-added-told (some a) none e = absurd (omega (arith, e, refusal-between a .0))
-added-told (some a) (some b) e = ap some (refusals-apart a b e)
+-- What was answered to a file for a sheet, or to a row, can be told from its number.
+pub refused-told : Injective refusedNumber
+refused-told none none e = refl
+refused-told none (some b) e = absurd (omega (arith, e, refusal-between b .0))
+refused-told (some a) none e = absurd (omega (arith, e, refusal-between a .0))
+refused-told (some a) (some b) e = ap some (refusals-apart a b e)

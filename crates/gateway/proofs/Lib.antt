@@ -1,2 +1,3 @@
 -- The laws of the numbers that the exported functions give.
+pub mod Numbered
 pub mod Apart

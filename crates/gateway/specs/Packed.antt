@@ -1,5 +1,5 @@
--- The promises of the register and of a duty sheet said of numbers: 0 or a length, 0 or a refusal's number, and kind · 2^32 + value or
--- number.
+-- The promises of the register, of a row of steps and of a duty sheet said of numbers: 0 or a length, 0 or a refusal's number, and
+-- kind · 2^32 + value or number.
 use Prim.Native.Nat.{ℕ, _+_, _*_, _^_}
 use mathlib.Core.List.{List}
 use mathlib.Core.Option.{Option, none, some}
@@ -8,6 +8,7 @@ use Rattle.rules.specs.steps.Replies.{Opening, ready, refused, Refusal, refusal
 use Rattle.promises.specs.Lengths.{asksLength}
 use Rattle.promises.specs.Opening.{opening}
 use Rattle.promises.specs.Stepping.{stepping}
+use Rattle.rows.specs.Rows.{rowing}
 use Rattle.sheets.specs.Sheets.{adding}
 
 -- A length as a number, 0 where there is none.
@@ -46,11 +47,17 @@ abbrev pub StepNumber : List ℕ → ℕ → ℕ → ℕ → ℕ → List ℕ �
 StepNumber words handler code value number after =
     Promise (inNumbers replyNumber stepping) (record { words = words; handler = handler; code = code; value = value }) number after
 
--- The reply to a file for a sheet as a number: 0, or the refusal's.
-abbrev pub addedNumber : Option Refusal → ℕ
-addedNumber none = 0
-addedNumber (some refusal) = refusalNumber refusal
+-- The reply to a file for a sheet, or to a row, as a number: 0, or the refusal's.
+abbrev pub refusedNumber : Option Refusal → ℕ
+refusedNumber none = 0
+refusedNumber (some refusal) = refusalNumber refusal
 
 -- The promise of adding a file to a sheet.
 abbrev pub SheetNumber : List ℕ → List ℕ → ℕ → List ℕ → Type 0
-SheetNumber words file number after = Promise (inNumbers addedNumber adding) (record { words = words; file = file }) number after
+SheetNumber words file number after = Promise (inNumbers refusedNumber adding) (record { words = words; file = file }) number after
+
+-- The promise of a row of steps.
+abbrev pub RowNumber : List ℕ → List ℕ → List ℕ → ℕ → ℕ → List ℕ → List ℕ → Type 0
+RowNumber words steps reports place number after told =
+    Promise (inNumbers refusedNumber rowing) (record { words = words; steps = steps; reports = reports; place = place }) number
+    (record { words = after; reports = told })

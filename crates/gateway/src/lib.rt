@@ -1,11 +1,12 @@
-// The register for programs in C and Rust: exported functions on numbers and words, thin over `register`, `prints` and `sheets`.
-// PUBLIC: nothing here has a `requires`. Each promise is the register's or a sheet's, said of numbers, or a whole run's.
+// The register for programs in C and Rust: exported functions on numbers and words, thin over `register`, `rows`, `prints` and `sheets`.
+// PUBLIC: nothing here has a `requires`. Each promise is the register's, a row's or a sheet's, said of numbers, or a whole run's.
 ghost use mathlib.Core.Path.{_≡_};
 ghost use Prim.Native.Nat.{_+_, _*_, _^_, _≤_};
 ghost use Rattle.prints.specs.Printed.{RunPromise, JudgedRunPromise};
-ghost use Rattle.gateway.specs.Packed.{LengthNumber, OpeningNumber, StepNumber, SheetNumber};
+ghost use Rattle.gateway.specs.Packed.{LengthNumber, OpeningNumber, StepNumber, SheetNumber, RowNumber};
 use register::Needed;
 use replies::Opened;
+use rows::Rowed;
 use sheets::Added;
 
 // The words that a register of m cells and n handlers needs; 0 where m or n is out of range.
@@ -45,6 +46,23 @@ pub extern "C" fn zidlemowo_step(words: &mut [u32], handler: u32, code: u32, val
 {
     let numbers = replies::numbers_of(register::step(words, handler, code, value));
     pack(numbers.kind, numbers.detail)
+}
+
+// Takes the steps of a row, and puts the report of each from a place on: 0, or the refusal's number.
+#[no_mangle]
+pub extern "C" fn zidlemowo_row(
+    words: &mut [u32],
+    steps: &[u32],
+    reports: &mut [u32],
+    place: usize,
+) -> u32
+    ensures { λ r. ⌜ RowNumber (now (words .entry)) (now (steps .entry)) (now (reports .entry)) place r
+        (now (words .exit)) (now (reports .exit)) ⌝ }
+{
+    match rows::row(words, steps, reports, place) {
+        Rowed::Done => 0,
+        Rowed::Refused(refusal) => replies::refusal_number(refusal),
+    }
 }
 
 // Runs a schedule file with the register: everything that is printed of it, into the output as far as it fits; how long that is.

@@ -1,14 +1,15 @@
 -- A word is the set of its bits and a set is the word of its cells: the word of a set of m cells lies below 2 ^ m, each way there
--- and back is the identity, and one cell more is one power of 2 more.
-use Prim.Native.Nat.{ℕ, zero, suc, _+_, _*_, _/_, _%_, _^_, _≤_, _<_}
+-- and back is the identity, one cell more or less is one power of 2 more or less, and the zeros below a word's lowest bit lead to it.
+use Prim.Native.Nat.{ℕ, zero, suc, _+_, _-_, _*_, _/_, _%_, _^_, _≤_, _<_}
 use mathlib.Core.Path.{_≡_, refl, sym, ap, _∙_, fun-ext}
-use mathlib.Core.Bool.{Bool, true, false}
+use mathlib.Core.Bool.{Bool, true, false, not, _&&_, and-false, and-true}
 use mathlib.Core.Logic.{_↔_}
 use native.Mathlib.Omega.{arith}
 use native.Mathlib.Nat.{pow-succ', div-one, div-eq-of-lt, one-mul}
 use native.Mathlib.Numerals.{one-add}
 use lib.Dec.{eqb, eqb·suc-suc, eqb·zero-suc, eqb·suc-zero}
 use lib.Pow.{shr-shr, pow-mono, shl-exact}
+use lib.Count.{trailingZeros}
 use borrow.Author.Tests.{eq-eqb, ne-eqb, eqb-true, eqb-false}
 use Rattle.rules.specs.steps.Tables.{if_then_else_, put}
 use Rattle.rules.specs.steps.Register.{noCells}
@@ -181,11 +182,70 @@ pub with-joined : (word x : ℕ) → hasBit word x ≡ false → withBit word x 
 unfolding withBit
 with-joined word x e = rw e
 
--- In a word of so many bits, a cell that is not in the set joins it by its bit, shifted,
+-- In a word of so many bits, 1 that is shifted to a cell's place is the cell's power of 2.
+pub shifted-is : (wide x : ℕ) → x < wide → (1 * 2 ^ x) % 2 ^ wide ≡ 2 ^ x
+shifted-is wide x h = shl-exact 1 x wide (omega arith) (omega arith) ∙ one-mul (2 ^ x)
+
+-- In such a word, a cell that is not in the set joins it by its bit, shifted,
 pub with-shifted : (wide word x : ℕ) → x < wide → hasBit word x ≡ false → word + (1 * 2 ^ x) % 2 ^ wide ≡ withBit word x
 with-shifted wide word x h absent =
-    ap (λ bit. word + bit) (shl-exact 1 x wide (omega arith) (omega arith) ∙ one-mul (2 ^ x)) ∙ sym (with-joined word x absent)
+    ap (λ bit. word + bit) (shifted-is wide x h) ∙ sym (with-joined word x absent)
 
 -- and the sum fits such a word.
 pub shifted-fits : (wide word x : ℕ) → x < wide → hasBit word x ≡ false → word < 2 ^ wide → word + (1 * 2 ^ x) % 2 ^ wide < 2 ^ wide
 shifted-fits wide word x h absent small = omega (arith, with-shifted wide word x h absent, with-small wide word x small h)
+
+-- ── One cell less ─────────────────────────────────────────────────────
+
+-- The lowest bit is there: the word is odd.
+odd : (word : ℕ) → hasBit word 0 ≡ true → word % 2 ≡ 1
+odd word e = eqb-true (word % 2) 1 (sym (has-zero word) ∙ e)
+
+-- A word is at least the power of 2 of each of its cells.
+pub has-power : (word x : ℕ) → hasBit word x ≡ true → 2 ^ x ≤ word
+has-power word zero e = omega (arith, odd word e)
+has-power word (suc x) e = omega (arith, has-power (word / 2) x (sym (has-suc word x) ∙ e), pow-succ' 2 x)
+
+-- What is in the set leaves it by a difference.
+pub has-less : (word x c : ℕ) → hasBit word x ≡ true → hasBit (word - 2 ^ x) c ≡ hasBit word c && not (eqb c x)
+has-less word zero zero e =
+    has-zero (word - 1) ∙ ne-eqb ((word - 1) % 2) 1 (omega (arith, odd word e)) ∙ sym (and-false (hasBit word 0))
+has-less word zero (suc c) e =
+    has-suc (word - 1) c ∙ ap (λ (half : ℕ). hasBit half c) same ∙ sym (has-suc word c) ∙ rw (eqb·suc-zero, and-true)
+  where
+    same : (word - 1) / 2 ≡ word / 2
+    same = omega (arith, odd word e)
+has-less word (suc x) zero e =
+    has-zero (word - 2 ^ suc x) ∙ ap (λ (low : ℕ). eqb low 1) same ∙ sym (has-zero word) ∙ rw (eqb·zero-suc, and-true)
+  where
+    same : (word - 2 ^ suc x) % 2 ≡ word % 2
+    same = omega (arith, has-power word (suc x) e, pow-succ' 2 x)
+has-less word (suc x) (suc c) e =
+    has-suc (word - 2 ^ suc x) c ∙ ap (λ (half : ℕ). hasBit half c) halved
+    ∙ has-less (word / 2) x c (sym (has-suc word x) ∙ e) ∙ rw (eqb·suc-suc, has-suc)
+  where
+    halved : (word - 2 ^ suc x) / 2 ≡ word / 2 - 2 ^ x
+    halved = omega (arith, has-power word (suc x) e, pow-succ' 2 x)
+
+-- ── The lowest cell ───────────────────────────────────────────────────
+
+-- Cell c lies below k and is in the set, and none below it is.
+abbrev LowestBelow : ℕ → ℕ → ℕ → Type 0
+LowestBelow k word c = (c < k) × (hasBit word c ≡ true) × ((y : ℕ) → y < c → hasBit word y ≡ false)
+
+-- The lowest cell of an even word is one above that of its half.
+lowest-next : (k word c : ℕ) → hasBit word 0 ≡ false → LowestBelow k (word / 2) c → LowestBelow (suc k) word (suc c)
+lowest-next k word c e half = (omega (arith, half .0), has-suc word c ∙ half .1, first)
+  where
+    first : (y : ℕ) → y < suc c → hasBit word y ≡ false
+    first zero h = e
+    first (suc y) h = has-suc word y ∙ half .2 y (omega arith)
+
+-- So many zeros as a word of k bits ends with, so far up is its lowest cell.
+pub trailing-lowest : (k word : ℕ) → 0 < word → word < 2 ^ k → LowestBelow k word (trailingZeros k word)
+unfolding trailingZeros
+trailing-lowest zero word some fits = absurd (omega arith)
+trailing-lowest (suc k) word some fits = by (hasBit word 0)
+    (λ e. rw (odd word e) (omega arith, e, λ y h. absurd (omega arith)))
+    (λ e. rw (even word e)
+    (lowest-next k word _ e (trailing-lowest k (word / 2) (omega (arith, even word e)) (omega (arith, pow-succ' 2 k)))))

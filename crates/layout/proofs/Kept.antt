@@ -28,7 +28,7 @@ use Rattle.layout.proofs.ViewPour.{view-cell, view-handler, view-pour, 
 -- ── Bounded registers and well-formed words ───────────────────────────
 
 -- A block that holds a bounded handler is good.
-held-good : {m : ℕ} {h : Handler ℕ} {block : List ℕ} → HoldsHandler m h block → BoundedHandler m h → GoodBlock m block
+pub held-good : {m : ℕ} {h : Handler ℕ} {block : List ℕ} → HoldsHandler m h block → BoundedHandler m h → GoodBlock m block
 held-good {m} {h} {block} holds bound = record {
   readSet = no-bit-from m _ .1 (rw (holds .readSet) (mask-small m (h .readSet)));
   writtenSet = no-bit-from m _ .1 (rw (holds .writtenSet) (mask-small m (h .writtenSet)));

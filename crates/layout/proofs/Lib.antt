@@ -10,4 +10,5 @@ pub mod PourView
 pub mod Untouched
 pub mod Fronts
 pub mod OneHandler
+pub mod OneRow
 pub mod Kept

@@ -40,6 +40,10 @@ bodyOf words = drop 2 words
 abbrev pub cellStart : ℕ → ℕ → ℕ
 cellStart m c = c * cellLong m
 
+-- Where cell c's own number stands in the body.
+abbrev pub ownAt : ℕ → ℕ → ℕ
+ownAt m c = cellStart m c + (1 + c)
+
 -- Where the block of handler i begins in the body.
 abbrev pub handlerStart : ℕ → ℕ → ℕ
 handlerStart m i = m * cellLong m + i * handlerLong m

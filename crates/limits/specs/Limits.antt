@@ -36,3 +36,11 @@ ledgerRows = 81
 -- The counts of a handler in a duty sheet.
 abbrev pub sheetColumns : ℕ
 sheetColumns = 6
+
+-- The words of a step in a row: handler, code and value.
+abbrev pub stepWidth : ℕ
+stepWidth = 3
+
+-- The words of a step's report: handler, code, kind of reply, and its value or number.
+abbrev pub reportWidth : ℕ
+reportWidth = 4

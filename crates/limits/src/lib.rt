@@ -62,6 +62,12 @@ pub const SHEET_WORDS: usize = HANDLER_TABLE * SHEET_COLUMNS;
 // A count above which a duty sheet takes no file: no file has so many lines that a count up to here could wrap.
 pub const SHEET_FULL: u32 = 4_294_000_000u32;
 
+// The words of a step in a row: handler, code and value.
+pub const STEP_WIDTH: usize = 3;
+
+// The words of a step's report: handler, code, kind of reply, and its value or number.
+pub const REPORT_WIDTH: usize = 4;
+
 // Whether m is 1 to 32 and n is 1 to 16.
 pub fn in_range(m: u32, n: u32) -> bool
     ensures { λ r. ⌜ RangePromise m n r ⌝ }

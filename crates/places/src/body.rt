@@ -2,7 +2,7 @@
 ghost use mathlib.Core.Path.{_≡_};
 ghost use Prim.Native.Nat.{_≤_, _<_};
 ghost use Rattle.limits.specs.Limits.{mostCells, mostHandlers};
-ghost use Rattle.layout.specs.Places.{bodyLong, cellLong, handlerLong, cellStart, handlerStart, transactionFrom, copiesFrom};
+ghost use Rattle.layout.specs.Places.{bodyLong, cellLong, handlerLong, cellStart, ownAt, handlerStart, transactionFrom, copiesFrom};
 ghost use Rattle.places.specs.Spans.{Spans};
 
 // A part of the words: its first place, and the place behind it.
@@ -62,6 +62,14 @@ pub fn cell_at(m: usize, c: usize) -> Span
         start,
         end: start + long,
     }
+}
+
+// Where cell c's own number lies.
+pub fn own_number(m: usize, c: usize) -> usize
+    requires { ⌜ (m ≤ mostCells) × (c < mostCells) ⌝ }
+    ensures { λ r. ⌜ r ≡ ownAt m c ⌝ }
+{
+    c * (NUMBERS + m) + NUMBERS + c
 }
 
 // Where the block of handler i lies.

@@ -3,6 +3,7 @@
 // Internal: called by our crates alone, which show what each function requires.
 mod body;
 mod ledger;
+mod row;
 mod sheet;
 
 pub use body::CELLS;
@@ -18,6 +19,7 @@ pub use body::block_at;
 pub use body::body_words;
 pub use body::cell_at;
 pub use body::copies;
+pub use body::own_number;
 pub use body::transaction_numbers;
 pub use ledger::COMMITS_NOTED;
 pub use ledger::commit_row;
@@ -26,6 +28,13 @@ pub use ledger::handler_row;
 pub use ledger::row_at;
 pub use ledger::source_at;
 pub use ledger::written_at;
+pub use row::REPORT_CODE;
+pub use row::REPORT_DETAIL;
+pub use row::REPORT_HANDLER;
+pub use row::REPORT_KIND;
+pub use row::STEP_CODE;
+pub use row::STEP_HANDLER;
+pub use row::STEP_VALUE;
 pub use sheet::BEGUN;
 pub use sheet::COMMITTED;
 pub use sheet::GAVE_UP;

@@ -1,48 +1,16 @@
--- A step on whole words by its ways: words that are no register are refused, and else what the body promises the words promise.
+-- A step on words that are no register is refused; on any others it is that of `turns`.
 use Prim.Native.Nat.{ℕ}
-use native.Mathlib.Omega.{arith}
-use mathlib.Core.Path.{_≡_, refl, ap, _∙_}
-use mathlib.Core.Bool.{true, false}
-use mathlib.Core.List.{List, _∷_}
-use Rattle.rules.specs.steps.Codes.{plainSheet}
-use Rattle.rules.specs.steps.Register.{Register}
-use Rattle.rules.specs.steps.Replies.{notWellFormed, Reply, reported}
+use mathlib.Core.Path.{_≡_}
+use mathlib.Core.Bool.{false}
+use mathlib.Core.List.{List}
+use Rattle.rules.specs.steps.Replies.{notWellFormed, Reply}
 use Rattle.rules.specs.steps.Checks.{firstHit, stepChecks}
-use Rattle.rules.specs.steps.Turn.{Turn, stepRefusal, turned, turn}
-use Rattle.layout.specs.Places.{cellsOf, handlersOf, bodyOf}
-use Rattle.layout.specs.WellFormed.{WellFormed, isWellFormed}
-use Rattle.layout.proofs.Kept.{well-long}
-use Rattle.layout.proofs.Fronts.{register-front}
-use Rattle.layout.proofs.Tested.{tested}
+use Rattle.rules.specs.steps.Turn.{stepRefusal, turned, turn}
+use Rattle.layout.specs.WellFormed.{isWellFormed}
 use Rattle.promises.specs.Stepping.{turnOf, stepWords, StepPromise}
-use Rattle.promises.specs.Bodies.{bodyTurn, bodyWords, BodyPromise}
-use Rattle.steps.specs.Takes.{WholeBody}
 
--- Well-formed words have such a body.
-pub stands : {words : List ℕ} → WellFormed words → WholeBody (cellsOf words) (handlersOf words) (bodyOf words)
-stands w = record { formed = record { good = w .body; few = w .range .cells }; most = w .range .handlers; phases = w .phases }
-
-module _ (words : List ℕ) (handler code value : ℕ) where
-  -- Words that are no register are refused.
-  pub malformed-stops : isWellFormed words ≡ false → StepPromise words handler code value (Reply.refused notWellFormed) words
-  unfolding turnOf stepWords turn stepRefusal turned firstHit stepChecks
-  malformed-stops malformed = record { replied = rw malformed; left = rw malformed }
-
-  -- What the body promises the words promise, with m and n in front.
-  pub body-steps : isWellFormed words ≡ true → {reply : Reply ℕ} {after : List ℕ}
-      → BodyPromise plainSheet (cellsOf words) (handlersOf words) (bodyOf words) handler code value reply after
-      → StepPromise words handler code value reply (cellsOf words ∷ handlersOf words ∷ after)
-  unfolding turnOf bodyTurn bodyWords stepWords
-  body-steps formed p = record {
-    replied = p .replied ∙ rw formed;
-    left = ap (λ body. cellsOf words ∷ handlersOf words ∷ body) (p .left)
-        ∙ fronted (taken .reply) (taken .after) ∙ rw formed;
-  }
-    where
-      taken : Turn ℕ
-      taken = bodyTurn plainSheet (cellsOf words) (handlersOf words) (bodyOf words) handler code value
-
-      fronted : (reply : Reply ℕ) (r : Register ℕ)
-          → cellsOf words ∷ handlersOf words ∷ bodyWords (cellsOf words) (handlersOf words) (bodyOf words) reply r ≡ stepWords words reply r
-      fronted (Reply.refused refusal) r = register-front words (omega (arith, well-long (tested words .0 formed)))
-      fronted (reported report) r = refl
+-- Words that are no register are refused.
+pub malformed-stops : (words : List ℕ) (handler code value : ℕ) → isWellFormed words ≡ false
+    → StepPromise words handler code value (Reply.refused notWellFormed) words
+unfolding turnOf stepWords turn stepRefusal turned firstHit stepChecks
+malformed-stops words handler code value malformed = record { replied = rw malformed; left = rw malformed }

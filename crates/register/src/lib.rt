@@ -56,18 +56,7 @@ pub fn step(words: &mut [u32], handler: u32, code: u32, value: u32) -> Answer
     if !formed::well_formed(words) {
         return Answer::Refused(Refusal::NotWellFormed);
     }
-    let m = words[places::CELLS] as usize;
-    let n = words[places::HANDLERS] as usize;
-    let kind = checks::kind_of(code);
-    turns::turn(
-        &mut words[limits::FRONT..],
-        m,
-        n,
-        handler,
-        code,
-        kind,
-        value,
-    )
+    turns::step_formed(words, handler, code, value)
 }
 
 // A cell's value and own number.

@@ -12,7 +12,7 @@ use Rattle.replies.specs.declared.Outcome.{Outcome}
 use Rattle.replies.specs.declared.Outcome.the-variants.{Done, Value, Committed, Aborted}
 use Rattle.replies.specs.declared.Refusal.{Refusal}
 use Rattle.replies.specs.declared.Refusal.the-variants.{NotWellFormed, NoHandler, NoCell, AlreadyOpen, NotOpen, UnknownStep}
-use Rattle.replies.specs.declared.Refusal.the-variants.{OutOfRange, TooShort, BadFile, UsedUp, TooManyCommits, SheetFull}
+use Rattle.replies.specs.declared.Refusal.the-variants.{OutOfRange, TooShort, BadFile, UsedUp, TooManyCommits, SheetFull, NoRoom}
 use Rattle.replies.specs.declared.Answer.{Answer}
 use Rattle.replies.specs.declared.Answer.the-variants.{Reported, Refused}
 use Rattle.replies.specs.declared.Opened.{Opened}
@@ -49,6 +49,7 @@ refusalBack Rules.badFile = BadFile
 refusalBack Rules.usedUp = UsedUp
 refusalBack Rules.tooManyCommits = TooManyCommits
 refusalBack Rules.sheetFull = SheetFull
+refusalBack Rules.noRoom = NoRoom
 
 pub answerBack : Rules.Reply ℕ → Answer
 answerBack (Rules.reported report) = Reported (record { handler = report .handler; code = report .code; outcome = outcomeBack (report .outcome) })
@@ -92,6 +93,7 @@ refusal-same BadFile = refl
 refusal-same UsedUp = refl
 refusal-same TooManyCommits = refl
 refusal-same SheetFull = refl
+refusal-same NoRoom = refl
 
 pub answer-same : (answer : Answer) → answerBack (replyIs answer) ≡ answer
 unfolding answerBack

@@ -8,7 +8,7 @@ use Rattle.replies.specs.declared.Outcome.{Outcome}
 use Rattle.replies.specs.declared.Outcome.the-variants.{Done, Value, Committed, Aborted}
 use Rattle.replies.specs.declared.Refusal.{Refusal}
 use Rattle.replies.specs.declared.Refusal.the-variants.{NotWellFormed, NoHandler, NoCell, AlreadyOpen, NotOpen, UnknownStep}
-use Rattle.replies.specs.declared.Refusal.the-variants.{OutOfRange, TooShort, BadFile, UsedUp, TooManyCommits, SheetFull}
+use Rattle.replies.specs.declared.Refusal.the-variants.{OutOfRange, TooShort, BadFile, UsedUp, TooManyCommits, SheetFull, NoRoom}
 use Rattle.replies.specs.declared.Answer.{Answer}
 use Rattle.replies.specs.declared.Answer.the-variants.{Reported, Refused}
 use Rattle.replies.specs.declared.Numbers.{Numbers}
@@ -43,6 +43,7 @@ refusalIs BadFile = Rules.badFile
 refusalIs UsedUp = Rules.usedUp
 refusalIs TooManyCommits = Rules.tooManyCommits
 refusalIs SheetFull = Rules.sheetFull
+refusalIs NoRoom = Rules.noRoom
 
 -- The rules' reply to a step.
 abbrev pub replyIs : Answer → Rules.Reply ℕ

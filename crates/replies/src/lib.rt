@@ -28,7 +28,8 @@ pub struct Report {
     pub outcome: Outcome,
 }
 
-// Why a step, an opening, a schedule file or an order place is refused, why the judge stops, and why a sheet takes no file.
+// Why a step, an opening, a schedule file or an order place is refused, why the judge stops, why a sheet takes no file, and why a row is
+// not begun.
 pub enum Refusal {
     NotWellFormed,
     NoHandler,
@@ -42,6 +43,7 @@ pub enum Refusal {
     UsedUp,
     TooManyCommits,
     SheetFull,
+    NoRoom,
 }
 
 // The answer to a step.
@@ -97,6 +99,7 @@ pub fn refusal_number(refusal: Refusal) -> u32
         Refusal::UsedUp => 32,
         Refusal::TooManyCommits => 33,
         Refusal::SheetFull => 41,
+        Refusal::NoRoom => 42,
     }
 }
 

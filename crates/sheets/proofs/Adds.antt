@@ -2,15 +2,15 @@
 use Prim.Native.Nat.{ℕ, _≤_, _<_}
 use mathlib.Core.Path.{_≡_, refl, sym, _∙_}
 use mathlib.Core.Bool.{true, false}
-use mathlib.Core.List.{List, [], _∷_, _++_}
+use mathlib.Core.List.{List, [], _∷_}
 use mathlib.Core.Logic.{_↔_, _⊎_, inl, inr}
-use mathlib.Core.Option.{Option, none, some, Option·some-ne-none}
+use mathlib.Core.Option.{Option, none, some}
 use lib.Dec.{ltb}
 use lib.ListN.{length}
 use borrow.Author.Tests.{lt-ltb, le-ltb, ltb-true, ltb-false}
 use Rattle.rules.specs.steps.Replies.{Refusal, tooShort, sheetFull}
-use Rattle.rules.specs.steps.Checks.{Check, _when_, firstHit}
-use Rattle.rules.proofs.steps.Given.{exactly}
+use Rattle.rules.specs.steps.Checks.{_when_, firstHit}
+use Rattle.rules.proofs.steps.Given.{exactly, hit-front, hit-behind}
 use Rattle.rules.proofs.steps.Tables.{by, found}
 use Rattle.schedule.specs.Admitting.{Admission, sound, fileChecks, fileRefusal, admissionOf}
 use Rattle.schedule.proofs.Admits.{file-exactly, good-exactly}
@@ -21,22 +21,6 @@ use Rattle.sheets.proofs.Full.{full-at, full-one}
 use Rattle.sheets.proofs.Admitted.{admitted-free, refused-says}
 
 -- ── What is said of a file ────────────────────────────────────────────
-
--- What some checks say, others behind them do not change,
-hit-front : {A : Type 0} (checks more : List (Check A)) {a : A} → firstHit checks ≡ some a → firstHit (checks ++ more) ≡ some a
-unfolding firstHit
-hit-front [] more {a} e = absurd (Option·some-ne-none a (sym e))
-hit-front (check ∷ checks) more e = by (check .holds)
-    (λ h. rw h (rw h at e))
-    (λ h. rw h (hit-front checks more (rw h at e)))
-
--- and where they say nothing, those do.
-hit-behind : {A : Type 0} (checks more : List (Check A)) → firstHit checks ≡ none → firstHit (checks ++ more) ≡ firstHit more
-unfolding firstHit
-hit-behind [] more e = refl
-hit-behind (check ∷ checks) more e = by (check .holds)
-    (λ h. absurd (Option·some-ne-none (check .says) (rw h at e)))
-    (λ h. rw h (hit-behind checks more (rw h at e)))
 
 module _ (words file : List ℕ) where
   -- 21 where the words are too few,

@@ -1,5 +1,5 @@
 -- Nothing wraps: a file that is not refused finds a sheet whose counts are low, and has too few order bytes to lift one of them to 2^32.
-use Prim.Native.Nat.{ℕ, _+_, _≤_, _<_}
+use Prim.Native.Nat.{ℕ, _+_, _≤_}
 use native.Mathlib.Omega.{arith}
 use mathlib.Core.Path.{_≡_, refl}
 use mathlib.Core.Bool.{false}
@@ -9,8 +9,8 @@ use lib.ListN.{length}
 use lib.Dec.{ltb}
 use borrow.Author.Tests.{ltb-false}
 use Rattle.rules.specs.steps.Replies.{tooShort, sheetFull}
-use Rattle.rules.specs.steps.Checks.{Check, _when_, firstHit}
-use Rattle.rules.proofs.steps.Given.{none-holds}
+use Rattle.rules.specs.steps.Checks.{_when_}
+use Rattle.rules.proofs.steps.Given.{none-holds, none-of-both}
 use Rattle.rules.proofs.steps.Tables.{by}
 use Rattle.lines.specs.Lines.{Line}
 use Rattle.schedule.specs.Sound.{handlersIn, cellsIn, tableStart, orderIn}
@@ -25,16 +25,6 @@ use Rattle.sheets.proofs.Full.{full-none}
 use Rattle.sheets.proofs.Counts.{free-adds}
 
 -- ── A file that is not refused ────────────────────────────────────────
-
--- Where no check of two lists holds, none of the first holds and none of the second.
-none-of-both : {A : Type 0} (first second : List (Check A)) → firstHit (first ++ second) ≡ none
-    → (firstHit first ≡ none) × (firstHit second ≡ none)
-unfolding firstHit
-none-of-both [] second e = (refl, e)
-none-of-both (check ∷ first) second e =
-    let (fails, others) = none-holds (check .says) (check .holds) (first ++ second) .0 e in
-    let (here, there) = none-of-both first second others in
-    (rw fails here, there)
 
 -- What is known where no check refuses a file: the words are a sheet's, the file is let through, and the sheet is not full.
 pub record FreeFile (words file : List ℕ) : Type 0 where

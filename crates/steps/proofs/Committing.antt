@@ -1,101 +1,129 @@
--- A commit over a whole register: with the numbers stamped, the written cells stored and the block settled, the words hold the
--- rules' register.
+-- A commit over a whole body: with the numbers stamped, the written cells stored and the block settled, the words hold the rules'
+-- register. Between the stores they hold the register whose transaction has the stamped numbers, and then that one with the cells stored.
 use Prim.Native.Nat.{ℕ, _+_, _-_, _≤_, _<_}
-use native.Mathlib.Omega.{arith}
 use mathlib.Core.Path.{_≡_, sym, ap, ap₂, _∙_}
-use mathlib.Core.Bool.{false, _&&_}
+use mathlib.Core.Bool.{false}
 use mathlib.Core.List.{List}
+use native.Mathlib.Omega.{arith}
 use lib.Dec.{ltb}
-use lib.ListN.{getD, take, drop}
+use lib.ListN.{length, getD, take, drop}
+use borrow.Author.Tests.{ltb-true, ltb-false}
 use borrow.Rule.Slice.PartMut.{putMid}
 use Rattle.rules.specs.steps.Codes.{try}
 use Rattle.rules.specs.steps.Replies.{committed}
-use Rattle.rules.specs.steps.Register.{Register, withHandler, idle}
-use Rattle.rules.specs.steps.Figure.{stamped, isOvertaken, isSpent, committing}
+use Rattle.rules.specs.steps.Register.{Handler, Register, withHandler, idle}
+use Rattle.rules.specs.steps.Figure.{stamped, isOvertaken, isSpent}
+use Rattle.rules.proofs.steps.Tables.{by, put-here}
+use Rattle.rules.proofs.steps.Confined.{ConfinedHandler, stamped-confined}
 use Rattle.layout.specs.Bits.{hasBit}
-use Rattle.layout.specs.Places.{bodyLong, handlerStart, handlerLong, copiesFrom}
+use Rattle.layout.specs.Places.{bodyLong, handlerStart, handlerLong, transactionFrom, copiesFrom}
 use Rattle.layout.specs.View.{wordSetting, viewHandler, view, pourHandler, holding, Holds}
+use Rattle.layout.proofs.Blocks.{view-handler-is, poured-handler}
 use Rattle.layout.proofs.Holds.{holds-is}
+use Rattle.layout.proofs.ViewPour.{view-confined}
 use Rattle.layout.proofs.Kept.{view-bounded}
-use Rattle.layout.proofs.OneHandler.{block-put}
-use Rattle.layout.specs.Rows.{splice}
-use Rattle.words.specs.Rows.{RowOf}
-use Rattle.block.specs.Blocks.{rowTable, overtakenBy, spentBy, stampedBy}
+use Rattle.layout.proofs.OneRow.{withTransaction, row-changed}
+use Rattle.words.specs.Rows.{Changed}
+use Rattle.words.proofs.Changes.{changed-at, changed-as}
+use Rattle.stores.specs.Stores.{Behind, Raisable, stampedIn, storedWhere, Stores}
+use Rattle.stores.proofs.Commits.{stores-same, commit-holds}
 use Rattle.places.specs.Spans.{Spans}
+use Rattle.places.proofs.Lent.{lent-part, lent-back}
 use Rattle.steps.specs.Takes.{Seated, Takes, Commits}
-use Rattle.steps.specs.Stores.{ownNumbers, storedBelow, Stores}
-use Rattle.places.proofs.Lent.{lent-back}
-use Rattle.steps.proofs.Lent.{seated-holds, block-says}
-use Rattle.steps.proofs.Said.{written-said, copy-said}
-use Rattle.steps.proofs.Storing.{commit-is}
-use Rattle.steps.proofs.Trying.{try-commits, own-is, written-is, copies-are, stamps-are}
+use Rattle.steps.proofs.Lent.{seated-holds, block-lies, cells-lie}
+use Rattle.steps.proofs.Said.{written-said, written-among, transaction-said, copy-said, own-said}
+use Rattle.steps.proofs.Trying.{try-commits}
 
--- A row of a table is one of any table that is the same.
-same-row : {m : ℕ} {table other : ℕ → ℕ} {row : List ℕ} → RowOf m table row → ((y : ℕ) → y < m → table y ≡ other y) → RowOf m other row
-same-row of same = record { size = of .size; inside = λ y h. of .inside y h ∙ same y h; beyond = of .beyond }
+-- Each cell's own number can be raised.
+pub raisable : {m n i : ℕ} {words : List ℕ} → Seated m n words i → Raisable m words
+raisable {m} {n} {i} {words} seated c l = rw (own-said n words l) (view-bounded (seated .formed .good) .cells c l c l)
 
-module _ {m n i : ℕ} {words : List ℕ} (seated : Seated m n words i) {from to : ℕ} (span : Spans (handlerStart m i) (handlerLong m) from to) where
+-- A row of the handler's block lies behind the cells, and the written set is one of some of them.
+pub row-behind : {m n i from to place offset : ℕ} {words others : List ℕ} → Seated m n words i → Spans (handlerStart m i) (handlerLong m) from to
+    → place ≡ offset → offset + m ≤ handlerLong m → length others ≡ length words → Behind m (getD words (from + 2) 0) (from + place) others
+row-behind seated span placed fits size = record {
+  few = seated .formed .few;
+  below = written-among seated (span .starts) .below;
+  cells = omega (arith, cells-lie seated span);
+  fits = omega (arith, block-lies seated span);
+}
+
+-- The commit of handler i, whose block is lent from one place to another, in which the transaction's numbers and the copies have theirs.
+module _ {m n i : ℕ} {words : List ℕ} (seated : Seated m n words i) {from to held copies : ℕ}
+    (span : Spans (handlerStart m i) (handlerLong m) from to) (holding-at : held ≡ transactionFrom m) (copies-at : copies ≡ copiesFrom m) where
   -- The register that the words say.
   abbrev r : Register ℕ
   r = view m n words
 
-  -- The block that is lent.
-  abbrev lent : List ℕ
-  lent = take (to - from) (drop from words)
+  -- The handler.
+  abbrev h : Handler ℕ
+  h = r .handlers i
 
-  -- A row of the cells' own numbers has none above 65,535.
-  pub own-fits : {own : List ℕ} → RowOf m (ownNumbers m n words) own → (y : ℕ) → y < m → getD own y 0 ≤ 65535
-  own-fits of y h = rw (of .inside y h) (view-bounded (seated .formed .good) .cells y h y h)
+  -- The word of its written set.
+  abbrev written : ℕ
+  written = getD words (from + 2) 0
 
-  -- What the block and the row say of reads that are overtaken is what the rules say.
-  pub overtaken-told : {own : List ℕ} → RowOf m (ownNumbers m n words) own
-      → overtakenBy m (viewHandler m lent) (rowTable own) ≡ isOvertaken (wordSetting m) r (r .handlers i)
-  unfolding overtakenBy isOvertaken
-  overtaken-told of = ap₂ (overtakenBy m) (block-says seated span) (own-is m n words of)
+  -- The handler with the stamped numbers.
+  abbrev raised : Handler ℕ
+  raised = withTransaction h (stamped r h)
 
-  -- What they say of numbers that are spent is what the rules say.
-  pub spent-told : {own : List ℕ} → RowOf m (ownNumbers m n words) own
-      → spentBy m (viewHandler m lent) (rowTable own) ≡ isSpent (wordSetting m) r (r .handlers i)
-  unfolding spentBy isSpent
-  spent-told of = ap₂ (spentBy m) (block-says seated span) (own-is m n words of)
+  -- It holds nothing beyond m.
+  confined : ConfinedHandler (wordSetting m) raised
+  confined =
+      let own = view-confined m n words .handler i in
+      record {
+        readSet = own .readSet;
+        writtenSet = own .writtenSet;
+        numbers = own .numbers;
+        transaction = stamped-confined (wordSetting m) r h own;
+        copies = own .copies;
+      }
 
-  -- The numbers that were stamped are the rules'.
-  numbers-are : {own numbers : List ℕ} → RowOf m (ownNumbers m n words) own → RowOf m (stampedBy (viewHandler m lent) (rowTable own)) numbers
-      → rowTable numbers ≡ stamped r (r .handlers i)
-  unfolding stamped stampedBy
-  numbers-are of-own stamps =
-      stamps-are m n words i (same-row stamps (λ y h. ap₂ (λ g table. stampedBy g table y) (block-says seated span) (own-is m n words of-own)))
+  module _ {after : List ℕ} (stamps : Changed (from + held) m (stampedIn m written words (from + held)) words after) where
+    -- The row of the transaction has the rules' numbers.
+    row : Changed (handlerStart m i + transactionFrom m) m (stamped r h) words after
+    unfolding stamped
+    row = changed-as _ (changed-at (ap₂ _+_ (span .starts) holding-at) stamps)
+        (λ y l. rw (written-said seated (span .starts) y l, transaction-said seated (span .starts) y l holding-at, own-said n words l))
 
-  -- The copies that were taken out are the handler's.
-  copied : {place : ℕ} {copies : List ℕ} → place ≡ copiesFrom m → RowOf m (λ y. getD words (from + place + y) 0) copies
-      → rowTable copies ≡ r .handlers i .copies
-  copied placed of = copies-are m n words i (same-row of (λ y h. copy-said seated (span .starts) y h placed))
+    -- The words hold the register with that handler.
+    stamped-holds : Holds m n (withHandler r i raised) (drop (bodyLong m n) words) after
+    stamped-holds = row-changed (seated-holds seated) i (seated .handler) (row .untouched) (row .inside)
 
-  -- The third word of the block is the written set.
-  written : (c : ℕ) → ltb c m && hasBit (getD words (from + 2) 0) c ≡ r .handlers i .writtenSet c
-  written = written-is m n words i (getD words (from + 2) 0) (written-said seated (span .starts))
+    -- The copies are as they were.
+    copied : (c : ℕ) → c < m → getD after (from + copies + c) 0 ≡ h .copies c
+    copied c l = stamps .untouched .above (from + copies + c) (omega (arith, holding-at, copies-at)) ∙ copy-said seated (span .starts) c l copies-at
 
-  -- What is left is the rules' register after a commit.
-  pub commits : {place : ℕ} {own numbers copies stored last : List ℕ} → place ≡ copiesFrom m → RowOf m (ownNumbers m n words) own
-      → RowOf m (stampedBy (viewHandler m lent) (rowTable own)) numbers
-      → RowOf m (λ y. getD words (from + place + y) 0) copies
-      → Stores m m (getD words (from + 2) 0) (rowTable copies) (rowTable numbers) words stored
-      → last ≡ pourHandler m (idle (wordSetting m) (rowTable numbers))
-      → Commits m n words i (putMid from (to - from) stored last)
-  commits {numbers = numbers} {copies = copies} {stored = stored} placed of-own stamps taken stores settled =
-      lent-back span stored settled ∙ holds-is settles ∙ ap (holding words m n) register
-    where
-      storing : Register ℕ
-      storing = storedBelow m (getD words (from + 2) 0) (rowTable copies) (rowTable numbers) r
+    -- The row's numbers, where they lie.
+    numbered : (y : ℕ) → y < m → getD after (from + held + y) 0 ≡ stamped r h y
+    numbered y l = ap (λ place. getD after (place + y) 0) (ap₂ _+_ (span .starts) holding-at) ∙ row .inside y l
 
-      settles : Holds m n (withHandler storing i (idle (wordSetting m) (rowTable numbers))) (drop (bodyLong m n) words)
-          (splice (handlerStart m i) (handlerLong m) (pourHandler m (idle (wordSetting m) (rowTable numbers))) stored)
-      settles = block-put (stores .holds n r (drop (bodyLong m n) words) (seated-holds seated)) i _ (seated .handler)
+    -- The written set's word says the written set, within m and beyond.
+    written-is : (c : ℕ) → hasBit written c ≡ h .writtenSet c
+    written-is c = by (ltb c m)
+        (λ e. written-said seated (span .starts) c (ltb-true c m e))
+        (λ e. written-among seated (span .starts) .below c (ltb-false c m e) ∙ sym (view-confined m n words .handler i .writtenSet c (ltb-false c m e)))
 
-      register : withHandler storing i (idle (wordSetting m) (rowTable numbers)) ≡ committing (wordSetting m) r i (r .handlers i)
-      register =
-          ap₂ (λ a b. withHandler (storedBelow m (getD words (from + 2) 0) a b r) i (idle (wordSetting m) b)) (copied placed taken) (numbers-are of-own stamps)
-          ∙ commit-is m r i (getD words (from + 2) 0) written
+    module _ {later : List ℕ}
+        (stores : Stores m (hasBit written) (λ c. getD after (from + copies + c) 0) (λ y. getD after (from + held + y) 0) after later) where
+      -- What is stored is the copies and the stamped numbers.
+      storing : Stores m (hasBit written) (h .copies) (stamped r h) after later
+      storing = stores-same (h .copies) (stamped r h) stores copied numbered
+
+      -- What is lent says the handler with the stamped numbers.
+      says : viewHandler m (take (to - from) (drop from later)) ≡ raised
+      unfolding storedWhere withHandler
+      says =
+          ap (viewHandler m) (lent-part span later ∙ storing .holds n _ _ stamped-holds .handlers i (seated .handler)
+          ∙ ap (pourHandler m) (put-here (r .handlers) i raised))
+          ∙ view-handler-is m raised _ confined (poured-handler m raised)
+
+      -- With the block settled, what is left is the rules' register after a commit.
+      pub commits : {last : List ℕ} → last ≡ pourHandler m (idle (wordSetting m) (viewHandler m (take (to - from) (drop from later)) .transaction))
+          → Commits m n words i (putMid from (to - from) later last)
+      commits settles =
+          lent-back span later (settles ∙ ap (λ g. pourHandler m (idle (wordSetting m) (g .transaction))) says)
+          ∙ holds-is (commit-holds m i r raised (seated .handler) written-is stamped-holds storing)
 
 -- A try that goes through is taken by a commit.
 pub commit-takes : {m n i : ℕ} {words after : List ℕ} → let r = view m n words in

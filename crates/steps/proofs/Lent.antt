@@ -1,6 +1,6 @@
 -- A handler's block as it is lent and comes back: the lent part is the block of the register that the words say, and with the
 -- block of another handler put back the words hold the register with that handler.
-use Prim.Native.Nat.{ℕ, _+_, _-_, _≤_}
+use Prim.Native.Nat.{ℕ, _+_, _*_, _-_, _≤_}
 use mathlib.Core.Path.{_≡_, refl, sym, ap, _∙_, subst}
 use mathlib.Core.List.{List}
 use native.Mathlib.Omega.{arith}
@@ -10,7 +10,7 @@ use Rattle.rules.specs.steps.Codes.{Step}
 use Rattle.rules.specs.steps.Replies.{Outcome}
 use Rattle.rules.specs.steps.Register.{Handler, withHandler}
 use Rattle.rules.specs.steps.Figure.{step}
-use Rattle.layout.specs.Places.{bodyLong, handlerStart, handlerLong}
+use Rattle.layout.specs.Places.{cellLong, bodyLong, handlerStart, handlerLong}
 use Rattle.layout.specs.View.{wordSetting, viewHandler, view, pourHandler, holding, Holds}
 use Rattle.layout.specs.WellFormed.{GoodBlock}
 use Rattle.layout.proofs.Places.{handler-fits, handler-start-small}
@@ -35,6 +35,10 @@ module _ {m n i : ℕ} {body : List ℕ} (seated : Seated m n body i) where
         let fits = handler-fits m n i (seated .handler) in
         let near = handler-start-small m i (seated .formed .few) (omega (arith, seated .low)) in
         omega (arith, span .starts, span .ends, seated .formed .good .long)
+
+    -- The cells lie before it.
+    pub cells-lie : m * cellLong m ≤ from
+    cells-lie = omega (arith, span .starts)
 
     -- What is lent of as many words is the words of a block.
     pub block-of : (others : List ℕ) → length others ≡ length body → Block m (take (to - from) (drop from others))

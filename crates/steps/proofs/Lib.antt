@@ -2,6 +2,6 @@
 pub mod Lent
 pub mod Said
 pub mod Reading
-pub mod Storing
+pub mod FirstReading
 pub mod Trying
 pub mod Committing

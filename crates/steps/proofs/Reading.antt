@@ -1,36 +1,24 @@
 -- A read by the rules: the local copy and nothing changed, or the first read with its outcome and its handler.
-use Prim.Native.Nat.{ℕ, _+_, _-_}
-use mathlib.Core.Path.{_≡_, sym, ap, ap₂, _∙_}
+use Prim.Native.Nat.{ℕ, max}
+use native.Mathlib.Omega.{arith}
+use mathlib.Core.Path.{_≡_, sym, ap, _∙_, fun-ext}
 use mathlib.Core.Bool.{true, false, _||_}
 use mathlib.Core.List.{List}
+use lib.Dec.{eqb, ltb}
+use borrow.Author.Tests.{eqb-true, eqb-false, le-ltb, ltb-true, ltb-false}
 use Rattle.rules.specs.steps.Codes.{read}
-use lib.ListN.{getD, take, drop}
-use borrow.Rule.Slice.PartMut.{putMid}
-use Rattle.rules.specs.steps.Replies.{Outcome, value}
-use Rattle.rules.specs.steps.Register.{Cell, Register, withHandler}
+use Rattle.rules.specs.steps.Replies.{torn, value, aborted}
+use Rattle.rules.specs.steps.Tables.{if_then_else_, put}
+use Rattle.rules.specs.steps.Register.{Setting, Cell, Handler, Register, withHandler, idle}
 use Rattle.rules.specs.steps.Checks.{firstHit}
-use Rattle.rules.specs.steps.Figure.{joined, shown, isTorn, aborting, unlessAborted, readChecks, firstRead, reading, step}
-use Rattle.rules.proofs.steps.Tables.{by}
-use Rattle.layout.specs.Places.{cellStart, handlerStart, handlerLong}
-use Rattle.layout.specs.View.{wordSetting, viewHandler, view, pourHandler}
+use Rattle.rules.specs.steps.Figure.{joined, taken, shown, isTorn, aborting, unlessAborted, readChecks, firstRead, reading, step}
+use Rattle.rules.proofs.steps.Tables.{by, both-ways, SameFrom, some-false, put-here, put-other}
+use Rattle.rules.proofs.steps.Searches.{some-same}
+use Rattle.layout.specs.View.{wordSetting, view}
 use Rattle.layout.specs.WellFormed.{GoodBody}
 use Rattle.layout.proofs.PourView.{pour-view}
-use Rattle.block.specs.Blocks.{rowCell, readHandler, readOutcome, ReadsFirst}
-use Rattle.words.specs.Rows.{RowOf}
-use Rattle.places.specs.Spans.{Spans}
-use Rattle.steps.specs.Takes.{Seated, Unread, Takes}
-use Rattle.steps.proofs.Lent.{block-says, lent-takes}
-use Rattle.steps.proofs.Said.{cell-said}
-
--- The first read of a cell that is in neither set.
-pub first-read-is : (m : ℕ) (r : Register ℕ) (i x v : ℕ) → r .handlers i .readSet x ≡ false → r .handlers i .writtenSet x ≡ false
-    → step (wordSetting m) r i (read x) v
-    ≡ record { outcome = readOutcome m (r .handlers i) x (r .cells x); after = withHandler r i (readHandler m (r .handlers i) x (r .cells x)) }
-unfolding step reading firstRead readChecks firstHit unlessAborted aborting readOutcome readHandler
-first-read-is m r i x v unread unwritten =
-    by (isTorn (wordSetting m) (joined (r .handlers i) x (r .cells x)) (r .cells x))
-    (λ torn. rw (unread, unwritten, torn))
-    (λ whole. rw (unread, unwritten, whole))
+use Rattle.block.specs.Blocks.{joinedWith}
+use Rattle.steps.specs.Takes.{Takes}
 
 -- A read of a cell that is in either set takes the copy and changes nothing.
 pub again-takes : {m n i x copy : ℕ} {body : List ℕ} → GoodBody m n body
@@ -42,26 +30,64 @@ again-takes good either same = record {
   left = sym (pour-view good) ∙ rw either;
 }
 
--- The first read of a cell whose words were copied out: what comes back of the lent block is the rules' handler.
-module _ {m n i x : ℕ} {words : List ℕ} (first : Unread m n words i x) {from to : ℕ} (span : Spans (handlerStart m i) (handlerLong m) from to) where
-  abbrev lent : List ℕ
-  lent = take (to - from) (drop from words)
+-- ── The first read ────────────────────────────────────────────────────
 
-  pub first-read-takes : {start : ℕ} {row last : List ℕ} {outcome : Outcome ℕ} → start ≡ cellStart m x
-      → RowOf m (λ y. getD words (start + 1 + y) 0) row
-      → ReadsFirst m (viewHandler m lent) x (rowCell (getD words (start + 0) 0) row) outcome last
-      → Takes m n words i (read x) 0 outcome (putMid from (to - from) words last)
-  first-read-takes {start} {row} starts copied reads =
-      lent-takes seated span (λ h. readHandler m h x cell)
-      (first-read-is m (view m n words) i x 0 (first .unread) (first .unwritten))
-      (reads .replied ∙ ap₂ (λ h c. readOutcome m h x c) (block-says seated span) same)
-      (reads .left ∙ ap (λ c. pourHandler m (readHandler m (viewHandler m lent) x c)) same)
-    where
-      seated : Seated m n words i
-      seated = first .ready .seated
+-- A cell that joins the read set is not torn itself: its number was just set. So the test may be asked before it joins.
+torn-before : (S : Setting ℕ) (h : Handler ℕ) (x : ℕ) (c : Cell ℕ) → h .readSet x ≡ false → isTorn S (joined h x c) c ≡ isTorn S h c
+unfolding isTorn joined
+torn-before S h x c unread = some-same (S .cellCount) _ _ (λ y _. by (eqb y x)
+    (λ e. rw (eqb-true y x e, unread, put-here, put-here, le-ltb (c .numbers x) (c .numbers x) (omega arith)))
+    (λ e. rw (put-other (h .readSet) x true y (eqb-false y x e), put-other (h .transaction) x (c .numbers x) y (eqb-false y x e))))
 
-      cell : Cell ℕ
-      cell = view m n words .cells x
+-- Where nothing is torn, a number of the read set is not below the cell's, and raising every number leaves it. So all numbers may be
+-- raised, and then the cell joins at its own.
+taken-is : (m : ℕ) (h : Handler ℕ) (x : ℕ) (c : Cell ℕ) → isTorn (wordSetting m) h c ≡ false → SameFrom m false (h .readSet)
+    → taken (joined h x c) x c ≡ joinedWith h x (c .value) (c .numbers)
+unfolding isTorn joinedWith taken joined
+taken-is m h x c whole beyond = λ d. record {
+  phase = 1;
+  readSet = put (h .readSet) x true;
+  writtenSet = h .writtenSet;
+  numbers = h .numbers;
+  transaction = fun-ext (λ y. sym (each y)) d;
+  copies = put (h .copies) x (c .value);
+}
+  where
+    raised : ℕ → ℕ
+    raised y = max (h .transaction y) (c .numbers y)
 
-      same : rowCell (getD words (start + 0) 0) row ≡ cell
-      same = cell-said n words (first .ready .cell) starts copied
+    held : (y : ℕ) → h .readSet y ≡ true → raised y ≡ h .transaction y
+    held y inside = by (ltb y m)
+        (λ e. let kept = some-false m _ whole y (ltb-true y m e) in
+        let least = ltb-false (h .transaction y) (c .numbers y) (rw inside at kept) in omega arith)
+        (λ e. both-ways inside (beyond y (ltb-false y m e)))
+
+    each : (y : ℕ) → put raised x (c .numbers x) y
+        ≡ (if put (h .readSet) x true y then (put (h .transaction) x (c .numbers x) y)
+        else (max (put (h .transaction) x (c .numbers x) y) (c .numbers y)))
+    each y = by (eqb y x)
+        (λ e. rw (eqb-true y x e, put-here, put-here, put-here))
+        (λ e. rw (
+          put-other raised x (c .numbers x) y (eqb-false y x e),
+          put-other (h .readSet) x true y (eqb-false y x e),
+          put-other (h .transaction) x (c .numbers x) y (eqb-false y x e),
+        ) (by (h .readSet y) (λ q. rw q (held y q)) (λ q. rw q)))
+
+module _ (m : ℕ) (r : Register ℕ) (i x v : ℕ) (unread : r .handlers i .readSet x ≡ false) (unwritten : r .handlers i .writtenSet x ≡ false) where
+  -- The first read of a cell that is torn.
+  pub first-read-torn : isTorn (wordSetting m) (r .handlers i) (r .cells x) ≡ true
+      → step (wordSetting m) r i (read x) v
+      ≡ record { outcome = aborted torn; after = withHandler r i (idle (wordSetting m) (r .handlers i .numbers)) }
+  unfolding step reading firstRead readChecks firstHit unlessAborted aborting
+  first-read-torn old = rw (unread, unwritten, torn-before (wordSetting m) (r .handlers i) x (r .cells x) unread ∙ old)
+
+  -- The first read of a cell that is not.
+  pub first-read-taken : isTorn (wordSetting m) (r .handlers i) (r .cells x) ≡ false → SameFrom m false (r .handlers i .readSet)
+      → step (wordSetting m) r i (read x) v ≡ record {
+        outcome = value (r .cells x .value);
+        after = withHandler r i (joinedWith (r .handlers i) x (r .cells x .value) (r .cells x .numbers));
+      }
+  unfolding step reading firstRead readChecks firstHit unlessAborted shown taken joined
+  first-read-taken whole beyond =
+      rw (unread, unwritten, torn-before (wordSetting m) (r .handlers i) x (r .cells x) unread ∙ whole, put-here)
+      (ap (λ h. record { outcome = value (r .cells x .value); after = withHandler r i h }) (taken-is m (r .handlers i) x (r .cells x) whole beyond))

@@ -1,23 +1,21 @@
--- A try by the rules, as each of its ways leaves the register; and the rows that a try works with are the register's own.
-use Prim.Native.Nat.{ℕ, _<_}
-use mathlib.Core.Path.{_≡_, sym}
-use mathlib.Core.Bool.{true, false, _&&_}
+-- A try by the rules, as each of its ways leaves the register; and what a try asks of the words is what the rules ask.
+use Prim.Native.Nat.{ℕ, _+_}
+use mathlib.Core.Path.{_≡_}
+use mathlib.Core.Bool.{true, false}
 use mathlib.Core.List.{List}
-use lib.Dec.{ltb}
-use borrow.Author.Tests.{ltb-true, ltb-false}
+use lib.ListN.{getD}
 use Rattle.rules.specs.steps.Codes.{try}
 use Rattle.rules.specs.steps.Replies.{Reason, overtaken, spent, committed, aborted}
+use Rattle.rules.specs.steps.Tables.{someBelow}
 use Rattle.rules.specs.steps.Register.{Register, withHandler, idle}
 use Rattle.rules.specs.steps.Checks.{firstHit}
-use Rattle.rules.specs.steps.Figure.{Result, stamped, isOvertaken, isSpent, aborting, committing, unlessAborted, tryChecks, trying, step}
-use Rattle.rules.proofs.steps.Tables.{by}
-use Rattle.rules.proofs.steps.Confined.{Confined}
-use Rattle.layout.specs.Bits.{hasBit}
+use Rattle.rules.specs.steps.Figure.{Result, isOvertaken, isSpent, aborting, committing, unlessAborted, tryChecks, trying, step}
+use Rattle.rules.proofs.steps.Searches.{some-same}
+use Rattle.layout.specs.Places.{handlerStart, transactionFrom}
 use Rattle.layout.specs.View.{wordSetting, view}
-use Rattle.layout.proofs.ViewPour.{view-confined}
-use Rattle.words.specs.Rows.{RowOf}
-use Rattle.words.proofs.Changes.{row-is}
-use Rattle.block.specs.Blocks.{rowTable}
+use Rattle.searches.specs.Searches.{differs, filled}
+use Rattle.steps.specs.Takes.{Seated}
+use Rattle.steps.proofs.Said.{read-said, written-said, transaction-said, own-said}
 
 -- ── The ways of a try ─────────────────────────────────────────────────
 
@@ -43,31 +41,21 @@ module _ (m : ℕ) (r : Register ℕ) (i v : ℕ) where
   unfolding step trying tryChecks firstHit unlessAborted
   try-commits current room = rw (current, room)
 
--- ── Rows of numbers ───────────────────────────────────────────────────
+-- ── What the words are asked ──────────────────────────────────────────
 
--- What rows stand for, of the register of m cells and n handlers that the words say.
-module _ (m n : ℕ) (words : List ℕ) where
-  confined : Confined (wordSetting m) n (view m n words)
-  confined = view-confined m n words
+-- The handler's block begins at a place.
+module _ {m n i : ℕ} {words : List ℕ} (seated : Seated m n words i) {start : ℕ} (starts : start ≡ handlerStart m i) where
+  -- The register that the words say.
+  abbrev r : Register ℕ
+  r = view m n words
 
-  -- A row of the cells' own numbers stands for them.
-  pub own-is : {row : List ℕ} → RowOf m (λ c. view m n words .cells c .numbers c) row → rowTable row ≡ (λ c. view m n words .cells c .numbers c)
-  own-is of = row-is of (λ c h. confined .cell c c h)
+  -- What the words say of reads that are overtaken is what the rules say.
+  pub overtaken-told : {place : ℕ} → place ≡ transactionFrom m
+      → someBelow m (differs m (getD words (start + 1) 0) words (start + place)) ≡ isOvertaken (wordSetting m) r (r .handlers i)
+  unfolding isOvertaken
+  overtaken-told placed = some-same m _ _ (λ y l. rw (read-said seated starts y l, transaction-said seated starts y l placed, own-said n words l))
 
-  module _ (i : ℕ) where
-    -- The written set's word, cut at m, is the written set.
-    pub written-is : (written : ℕ) → ((c : ℕ) → c < m → hasBit written c ≡ view m n words .handlers i .writtenSet c)
-        → (c : ℕ) → ltb c m && hasBit written c ≡ view m n words .handlers i .writtenSet c
-    written-is written said c = by (ltb c m)
-        (λ e. rw e (said c (ltb-true c m e)))
-        (λ e. rw e (sym (confined .handler i .writtenSet c (ltb-false c m e))))
-
-    -- A row of the copies stands for them.
-    pub copies-are : {row : List ℕ} → RowOf m (view m n words .handlers i .copies) row → rowTable row ≡ view m n words .handlers i .copies
-    copies-are of = row-is of (confined .handler i .copies)
-
-    -- A row of the stamped numbers stands for them.
-    pub stamps-are : {row : List ℕ} → RowOf m (stamped (view m n words) (view m n words .handlers i)) row
-        → rowTable row ≡ stamped (view m n words) (view m n words .handlers i)
-    unfolding stamped
-    stamps-are of = row-is of (λ c h. rw (confined .handler i .writtenSet c h) (confined .handler i .transaction c h))
+  -- What they say of numbers that are spent is what the rules say.
+  pub spent-told : someBelow m (filled m (getD words (start + 2) 0) words) ≡ isSpent (wordSetting m) r (r .handlers i)
+  unfolding isSpent
+  spent-told = some-same m _ _ (λ y l. rw (written-said seated starts y l, own-said n words l))

@@ -1,3 +1,2 @@
 -- What the steps over a whole body require and leave.
 pub mod Takes
-pub mod Stores

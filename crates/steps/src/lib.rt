@@ -2,7 +2,6 @@
 // Internal: called by our crates alone, which show what each function requires.
 
 mod single;
-mod store;
 mod tries;
 
 pub use single::begin;

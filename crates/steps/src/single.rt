@@ -55,19 +55,28 @@ pub fn write(body: &mut [u32], m: usize, n: usize, i: usize, x: usize, value: u3
     block::write(&mut body[start..end], m, x, value);
 }
 
-// A read of cell x that is in neither set: its value and its numbers are copied out, then the block is lent.
+// A read of cell x that is in neither set. A number that the read set holds is not below the cell's once nothing is torn, so that all
+// numbers are raised, whatever the set, before x joins at its own. The cell's words lie outside the lent block: its numbers are copied out.
 fn first_read(body: &mut [u32], m: usize, n: usize, i: usize, x: usize) -> Outcome
     requires { ⌜ Unread m n (now body) i x ⌝ }
     ensures { λ r. ⌜ Takes m n (now (body .entry)) i (Codes.read x) 0 (outcomeIs r) (now (body .exit)) ⌝ }
 {
     let cell = cell_at(m, x);
     let first = cell.start;
-    let value = body[first + places::VALUE];
-    let numbers = words::copy_out(body, first + places::NUMBERS, m);
+    let numbers = first + places::NUMBERS;
     let span = block_at(m, i);
     let start = span.start;
     let end = span.end;
-    block::first_read(&mut body[start..end], m, x, value, &numbers)
+    let held = start + places::transaction_numbers(m);
+    let set = body[start + places::READ_SET];
+    if searches::torn(body, m, set, held, numbers) {
+        block::rest(&mut body[start..end], m);
+        return Outcome::Aborted(Reason::Torn);
+    }
+    let value = body[first + places::VALUE];
+    let row = words::copy_out(body, numbers, m);
+    block::join(&mut body[start..end], m, x, value, &row);
+    Outcome::Value(value)
 }
 
 // A read of cell x: the local copy, if it is in either set, and else the first read.

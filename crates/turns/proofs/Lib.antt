@@ -1,4 +1,5 @@
--- Laws of a turn.
+-- Laws of a turn, and of a step on whole words.
 pub mod Refusing
 pub mod Taking
 pub mod Turning
+pub mod Stepping

@@ -1,7 +1,10 @@
-// A turn on a register's body, whatever stands in front of it: the checks of a step, then the step.
+// A turn on a register's body, whatever stands in front of it: the checks of a step, then the step; and the plain register's step, with no
+// test of 10.
 // Internal: called by our crates alone, which show what each function requires.
+mod formed;
 mod take;
 
+pub use formed::step_formed;
 ghost use mathlib.Core.Path.{_≡_};
 ghost use Prim.Native.Nat.{_≤_};
 ghost use Rattle.rules.specs.steps.Codes.{Sheet};

@@ -2,6 +2,7 @@
 use Prim.Native.Nat.{ℕ, zero, suc, _+_, _≤_, _<_}
 use mathlib.Core.Path.{_≡_, refl, sym, ap, _∙_, subst, fun-ext}
 use mathlib.Core.List.{List}
+use mathlib.Core.Logic.{_⊎_, inl, inr}
 use native.Mathlib.Omega.{arith}
 use native.Mathlib.Nat.{zero-add}
 use borrow.Author.Count.{below-more}
@@ -49,6 +50,11 @@ pub changed-at : {from place count : ℕ} {table : ℕ → ℕ} {words after : L
     → Changed place count table words after
 changed-at {count = count} {table = table} {words = words} {after = after} same = subst (λ k. Changed k count table words after) same
 
+-- What is changed to one table is changed to any that is the same there.
+pub changed-as : {from count : ℕ} {table : ℕ → ℕ} {words after : List ℕ} (other : ℕ → ℕ) → Changed from count table words after
+    → ((y : ℕ) → y < count → table y ≡ other y) → Changed from count other words after
+changed-as other changed same = record { untouched = changed .untouched; inside = λ y h. changed .inside y h ∙ same y h }
+
 -- A word of a row of zeros.
 zeros-at : (long y : ℕ) → _≡_ {A = ℕ} (getD (replicate long 0) y 0) 0
 zeros-at zero y = refl
@@ -75,3 +81,9 @@ pub changed-first : (count : ℕ) (table : ℕ → ℕ) (words after : List ℕ)
 changed-first count table words after v changed fits e =
     subst (λ k. Changed 0 (count + 1) table words (set after k v)) (zero-add count)
     (changed-more 0 table words count after v changed (omega arith) e)
+
+-- A row that lies apart from the one that is changed keeps its words.
+pub changed-apart : {to done count : ℕ} {table : ℕ → ℕ} {words after : List ℕ} (from y : ℕ) → Changed to done table words after
+    → (from + count ≤ to) ⊎ (to + count ≤ from) → done ≤ count → y < count → getD after (from + y) 0 ≡ getD words (from + y) 0
+changed-apart from y changed (inl front) part inside = changed .untouched .below _ (omega arith)
+changed-apart from y changed (inr behind) part inside = changed .untouched .above _ (omega arith)

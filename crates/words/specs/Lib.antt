@@ -1,2 +1,3 @@
--- What the functions over rows of words do.
+-- What the functions over sets and rows of words do.
 pub mod Rows
+pub mod Sets

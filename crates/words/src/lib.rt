@@ -1,12 +1,15 @@
-// Sets of cells in a word, and rows of words: cleared, copied, copied out and copied in.
+// Sets of cells in a word, and rows of words: cleared, copied and copied out.
 // Internal: called by our crates alone, which show what each function requires.
 ghost use mathlib.Core.Path.{_≡_};
+ghost use mathlib.Core.Bool.{true};
+ghost use mathlib.Core.Logic.{_⊎_};
 ghost use Prim.Native.Nat.{_+_, _≤_, _<_};
 ghost use lib.ListN.{length, getD};
 ghost use Rattle.rules.specs.steps.Register.{zeros};
 ghost use Rattle.limits.specs.Limits.{mostCells};
 ghost use Rattle.layout.specs.Bits.{hasBit, withBit};
 ghost use Rattle.words.specs.Rows.{Changed, RowOf};
+ghost use Rattle.words.specs.Sets.{Lowest, Without};
 
 // Whether cell c is in the set.
 pub fn has(set: u32, c: usize) -> bool
@@ -24,6 +27,22 @@ pub fn with_cell(set: u32, c: usize) -> u32
     if has(set, c) { set } else { set + (1u32 << c) }
 }
 
+// The lowest cell of a set.
+pub fn lowest(set: u32) -> usize
+    requires { ⌜ 0 < set ⌝ }
+    ensures { λ r. ⌜ Lowest set r ⌝ }
+{
+    u32::trailing_zeros(set) as usize
+}
+
+// The set without cell c, which is in it.
+pub fn without(set: u32, c: usize) -> u32
+    requires { ⌜ (c < mostCells) × (hasBit set c ≡ true) ⌝ }
+    ensures { λ r. ⌜ Without set c r ⌝ }
+{
+    set - (1u32 << c)
+}
+
 // Clears so many words from a place on.
 pub fn clear(words: &mut [u32], from: usize, count: usize)
     requires { ⌜ from + count ≤ length (now words) ⌝ }
@@ -34,9 +53,9 @@ pub fn clear(words: &mut [u32], from: usize, count: usize)
     }
 }
 
-// Copies a row to a place behind it.
+// Copies a row to a place where no word of it lies.
 pub fn copy(words: &mut [u32], from: usize, to: usize, count: usize)
-    requires { ⌜ (from + count ≤ to) × (to + count ≤ length (now words)) ⌝ }
+    requires { ⌜ ((from + count ≤ to) ⊎ (to + count ≤ from)) × (from + count ≤ length (now words)) × (to + count ≤ length (now words)) ⌝ }
     ensures { λ _. ⌜ Changed to count (λ y. getD (now (words .entry)) (from + y) 0) (now (words .entry)) (now (words .exit)) ⌝ }
 {
     for y in 0..count {
@@ -54,14 +73,4 @@ pub fn copy_out(words: &[u32], from: usize, count: usize) -> [u32; limits::ROW]
         row[y] = words[from + y];
     }
     row
-}
-
-// A row of a word a cell, copied in.
-pub fn copy_in(words: &mut [u32], to: usize, count: usize, row: &[u32; limits::ROW])
-    requires { ⌜ (to + count ≤ length (now words)) × (count ≤ mostCells) ⌝ }
-    ensures { λ _. ⌜ Changed to count (λ y. getD (now (row .entry)) y 0) (now (words .entry)) (now (words .exit)) ⌝ }
-{
-    for y in 0..count {
-        words[to + y] = row[y];
-    }
 }

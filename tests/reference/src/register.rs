@@ -12,16 +12,21 @@ pub enum Reply {
 }
 
 impl Reply {
-    /// The reply in one number, as the functions for C give it: kind · 2^32 + value, reason or number.
-    pub fn packed(self) -> u64 {
-        let (kind, detail) = match self {
+    /// The reply's kind, and its value, reason or number: 0 where there is none.
+    pub fn numbers(self) -> (u32, u32) {
+        match self {
             Reply::Ok => (0, 0),
             Reply::Value(value) => (1, value),
             Reply::Commit => (2, 0),
             Reply::Abort(reason) => (3, reason),
             Reply::Refused(number) => (4, number),
-        };
-        (kind << 32) | u64::from(detail)
+        }
+    }
+
+    /// The reply in one number, as the functions for C give it: kind · 2^32 + value, reason or number.
+    pub fn packed(self) -> u64 {
+        let (kind, detail) = self.numbers();
+        u64::from(kind) << 32 | u64::from(detail)
     }
 }
 
@@ -94,6 +99,12 @@ pub fn step(words: &mut [u32], handler: u32, code: u32, value: u32) -> Reply {
     if !well_formed(words) {
         return Reply::Refused(10);
     }
+    formed_step(words, handler, code, value)
+}
+
+/// The same on words that are a well-formed register already: they are not tested for it. No step spoils them.
+#[inline(always)]
+pub fn formed_step(words: &mut [u32], handler: u32, code: u32, value: u32) -> Reply {
     let Some(step) = decode(code) else {
         return Reply::Refused(15);
     };
@@ -234,64 +245,4 @@ impl Open<'_> {
 }
 
 #[cfg(test)]
-mod tests {
-    use super::*;
-
-    /// The replies to some steps on a fresh register, and the words then.
-    fn run(m: u32, n: u32, steps: &[(u32, u32, u32)]) -> (Vec<Reply>, Vec<u32>) {
-        let mut words = vec![7; length(m, n).unwrap()];
-        open(&mut words, m, n).unwrap();
-        let replies = steps.iter().map(|&(handler, code, value)| step(&mut words, handler, code, value)).collect();
-        (replies, words)
-    }
-
-    #[test]
-    fn lengths() {
-        assert_eq!(length(1, 1), Some(10));
-        assert_eq!(length(2, 1), Some(17));
-        assert_eq!(length(32, 16), Some(2642));
-        assert_eq!(length(33, 1), None);
-    }
-
-    #[test]
-    fn listing() {
-        let steps = [(0, 0, 0), (0, 32, 0), (1, 0, 0), (1, 64, 5), (1, 65, 7), (1, 1, 0), (0, 33, 0)];
-        let (replies, words) = run(2, 2, &steps);
-        use Reply::*;
-        assert_eq!(replies, [Ok, Value(0), Ok, Ok, Ok, Commit, Abort(1)]);
-        assert_eq!(words[2..8], [5, 1, 1, 7, 1, 1]);
-    }
-
-    #[test]
-    fn given_up() {
-        use Reply::*;
-        let before = [(0, 0, 0), (0, 65, 3), (0, 1, 0), (1, 0, 0), (1, 64, 5), (1, 1, 0)];
-        let steps = [&before[..], &[(0, 0, 0), (0, 32, 0), (0, 65, 7), (0, 2, 0), (0, 2, 0), (0, 1, 0)]].concat();
-        let (replies, words) = run(2, 2, &steps);
-        assert_eq!(replies[6..], [Ok, Value(5), Ok, Abort(5), Refused(14), Refused(14)]);
-        // Every word is as it was before: the cells, and the handler's numbers, though the transaction has read a newer version.
-        assert_eq!(words, run(2, 2, &before).1);
-    }
-
-    #[test]
-    fn given_up_whatever_became_of_the_reads() {
-        use Reply::*;
-        // The cell that was read is written by another handler, and a written cell's number is spent: no try could commit.
-        let (replies, mut words) = run(2, 2, &[(0, 0, 0), (0, 32, 0), (0, 65, 7), (1, 0, 0), (1, 64, 5), (1, 1, 0)]);
-        assert_eq!(replies[5], Commit);
-        words[7] = 65_535;
-        let cells = words[2..8].to_vec();
-        assert_eq!(step(&mut words.clone(), 0, 1, 0), Abort(2));
-        assert_eq!(step(&mut words, 0, 2, 9), Abort(5));
-        assert_eq!((&words[2..8], &words[8..17]), (&cells[..], &[0; 9][..]));
-    }
-
-    #[test]
-    fn the_order_of_refusals_of_a_give_up() {
-        let (_, mut words) = run(2, 1, &[]);
-        let mut refused = |handler, code| step(&mut words, handler, code, 0);
-        assert_eq!([refused(1, 2), refused(0, 2), refused(16, 3), refused(0, 3)], [11, 14, 15, 15].map(Reply::Refused));
-        words[8] = 2;
-        assert_eq!(step(&mut words, 1, 2, 0), Reply::Refused(10));
-    }
-}
+mod tests;

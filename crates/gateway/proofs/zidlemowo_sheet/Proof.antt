@@ -2,7 +2,8 @@
 use mathlib.Core.Path.{sym, ap, _∙_}
 use borrow.Author.Needs.{needs}
 use Rattle.sheets.specs.Meaning.{addedIs}
-use Rattle.gateway.specs.Packed.{addedNumber}
+use Rattle.gateway.specs.Packed.{refusedNumber}
+use Rattle.gateway.proofs.Numbered.{numbered}
 use Rattle.gateway.proofs.zidlemowo_sheet.Statement.{statement}
 use Rattle.gateway.proofs.zidlemowo_sheet.Tie as tie
 
@@ -16,17 +17,10 @@ zidlemowo-sheet-spec =
     (λ c κs. search needs)
     (λ c. search needs)
     -- counted
-    (λ c. let adds = c .before .before .before .before .add-file in
-    record {
-      replied = ap (λ answer. addedNumber (addedIs answer)) (sym (c .enum-told .given .1)) ∙ ap addedNumber (adds .ensures .replied);
-      left = adds .ensures .left;
-    })
+    (λ c. numbered refusedNumber (c .before .before .before .before .add-file .ensures)
+    (ap (λ answer. refusedNumber (addedIs answer)) (sym (c .enum-told .given .1))))
     (λ c. search needs)
     -- refused
     (λ c. let adds = c .before .before .before .before .before .before .add-file in
-    record {
-      replied =
-          c .refusal-number .ensures .replied ∙ ap (λ answer. addedNumber (addedIs answer)) (sym (c .before .before .refusal .given .1))
-          ∙ ap addedNumber (adds .ensures .replied);
-      left = adds .ensures .left;
-    }))
+    numbered refusedNumber (adds .ensures)
+    (c .refusal-number .ensures .replied ∙ ap (λ answer. refusedNumber (addedIs answer)) (sym (c .before .before .refusal .given .1)))))

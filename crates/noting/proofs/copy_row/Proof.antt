@@ -1,5 +1,6 @@
 -- `noting::copy_row` meets its contract: the handler's row is copied, and then the handler stored as the commit's.
 use mathlib.Core.Path.{ap, _∙_}
+use mathlib.Core.Logic.{inl}
 use native.Mathlib.Omega.{arith}
 use borrow.Author.Needs.{needs}
 use Rattle.layout.specs.Places.{rowStart}
@@ -25,7 +26,8 @@ copy-row-spec =
     (λ c κs. search needs)
     (λ c κs. search needs)
     (λ c κs. search needs)
-    (λ c κs. omega arith)
+    -- the row of the commit lies behind that of the handler
+    (λ c κs. (inl (omega arith), omega arith, omega arith))
     (λ c. omega arith)
     (λ c. omega arith)
     (λ c. search needs)

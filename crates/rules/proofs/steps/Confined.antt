@@ -59,7 +59,7 @@ module _ {W : Type 0} (S : Setting W) where
       raised y l = by (put (h .readSet) x true y) (λ e. rw e (joins y l)) (λ e. rw (e, joins y l, beyond y l))
 
   -- No cell beyond m is in the written set, so that none is stamped.
-  stamped-confined : (r : Register W) (h : Handler W) → ConfinedHandler S h → SameFrom (S .cellCount) 0 (stamped r h)
+  pub stamped-confined : (r : Register W) (h : Handler W) → ConfinedHandler S h → SameFrom (S .cellCount) 0 (stamped r h)
   unfolding stamped
   stamped-confined r h own y l = rw (own .writtenSet y l) (own .transaction y l)
 

@@ -2,7 +2,7 @@
 use Prim.Native.Nat.{ℕ, _≤_}
 use mathlib.Core.Path.{_≡_, refl, sym, _∙_, subst}
 use mathlib.Core.Bool.{Bool, true, false, not, _&&_}
-use mathlib.Core.List.{List, [], _∷_}
+use mathlib.Core.List.{List, [], _∷_, _++_}
 use mathlib.Core.Logic.{_↔_, _⊎_, inl, inr, ⊎-elim, ⊎-map}
 use mathlib.Core.Option.{Option, none, some, Option·some-injective, Option·some-ne-none}
 use lib.Dec.{leb, ltb}
@@ -32,6 +32,32 @@ pub none-holds : {A : Type 0} (a : A) (b : Bool) (checks : List (Check A))
 unfolding firstHit
 none-holds a true checks = (λ e. absurd (Option·some-ne-none a e), λ h. both-ways refl (h .0))
 none-holds a false checks = (λ e. (refl, e), λ h. h .1)
+
+-- What some checks say, others behind them do not change,
+pub hit-front : {A : Type 0} (checks more : List (Check A)) {a : A} → firstHit checks ≡ some a → firstHit (checks ++ more) ≡ some a
+unfolding firstHit
+hit-front [] more {a} e = absurd (Option·some-ne-none a (sym e))
+hit-front (check ∷ checks) more e = by (check .holds)
+    (λ h. rw h (rw h at e))
+    (λ h. rw h (hit-front checks more (rw h at e)))
+
+-- and where they say nothing, those do.
+pub hit-behind : {A : Type 0} (checks more : List (Check A)) → firstHit checks ≡ none → firstHit (checks ++ more) ≡ firstHit more
+unfolding firstHit
+hit-behind [] more e = refl
+hit-behind (check ∷ checks) more e = by (check .holds)
+    (λ h. absurd (Option·some-ne-none (check .says) (rw h at e)))
+    (λ h. rw h (hit-behind checks more (rw h at e)))
+
+-- Where no check of two lists holds, none of the first holds and none of the second.
+pub none-of-both : {A : Type 0} (first second : List (Check A)) → firstHit (first ++ second) ≡ none
+    → (firstHit first ≡ none) × (firstHit second ≡ none)
+unfolding firstHit
+none-of-both [] second e = (refl, e)
+none-of-both (check ∷ first) second e =
+    let (fails, others) = none-holds (check .says) (check .holds) (first ++ second) .0 e in
+    let (here, there) = none-of-both first second others in
+    (rw fails here, there)
 
 -- ── Cells named by a step ─────────────────────────────────────────────
 

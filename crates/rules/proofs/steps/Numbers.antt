@@ -7,7 +7,7 @@ use lib.Dec.{eqb}
 use Rattle.rules.specs.steps.Tables.{if_then_else_}
 use Rattle.rules.specs.steps.Replies.{Reason, torn, overtaken, spent, gaveUp, Outcome, ok, value, committed}
 use Rattle.rules.specs.steps.Replies.{aborted, Refusal, notWellFormed, noHandler, noCell, alreadyOpen, notOpen, unknownStep, outOfRange}
-use Rattle.rules.specs.steps.Replies.{tooShort, badFile, usedUp, tooManyCommits, sheetFull, reasonNumber, refusalNumber}
+use Rattle.rules.specs.steps.Replies.{tooShort, badFile, usedUp, tooManyCommits, sheetFull, noRoom, reasonNumber, refusalNumber}
 use Rattle.rules.specs.steps.Replies.{Numbers, outcomeNumbers, refusalNumbers}
 
 -- Different things have different images.
@@ -30,7 +30,8 @@ refusalBack n =
     else (if eqb n 14 then notOpen else (if eqb n 15 then unknownStep
     else (if eqb n 20 then outOfRange else (if eqb n 21 then tooShort
     else (if eqb n 30 then badFile else (if eqb n 32 then usedUp
-    else (if eqb n 33 then tooManyCommits else sheetFull))))))))))
+    else (if eqb n 33 then tooManyCommits else (if eqb n 41 then sheetFull
+    else noRoom)))))))))))
 
 -- The outcome of an answer in numbers.
 outcomeBack : Numbers → Outcome ℕ
@@ -61,6 +62,7 @@ refusal-back badFile = refl
 refusal-back usedUp = refl
 refusal-back tooManyCommits = refl
 refusal-back sheetFull = refl
+refusal-back noRoom = refl
 
 -- An outcome comes back from its numbers.
 outcome-back : (outcome : Outcome ℕ) → outcomeBack (outcomeNumbers outcome) ≡ outcome

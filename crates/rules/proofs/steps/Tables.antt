@@ -113,6 +113,16 @@ lowest-some (suc m) test y e = found (lowest m test)
     record { below = omega arith; passes = rw (← g) q; first = λ z l. lowest-none m test f z (omega arith) })
     (λ q. absurd (Option·some-ne-none y (sym (rw (f, q) at e)))))
 
+-- The lowest place that passes is the one that is found.
+pub lowest-is : (m : ℕ) (test : ℕ → Bool) (y : ℕ) → Lowest m test y → lowest m test ≡ some y
+lowest-is m test y least = found (lowest m test)
+    (λ z q. let other = lowest-some m test z q in
+    let notBelow : z < y → ⊥ = λ l. both-ways (other .passes) (least .first z l) in
+    let notAbove : y < z → ⊥ = λ l. both-ways (least .passes) (other .first y l) in
+    let same : z ≡ y = omega (arith, notBelow, notAbove) in
+    q ∙ ap some same)
+    (λ q. both-ways (least .passes) (lowest-none m test q y (least .below)))
+
 -- Some place passes: there is one.
 pub some-true : (m : ℕ) (test : ℕ → Bool) → someBelow m test ≡ true → (y : ℕ) × (y < m) × (test y ≡ true)
 unfolding someBelow

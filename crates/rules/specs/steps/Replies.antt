@@ -26,13 +26,14 @@ pub record Report (W : Type 0) : Type 0 where
   pub code : ℕ
   pub outcome : Outcome W
 
--- Why a step, an opening, a schedule file or an order place is refused, why the judge stops, and why a sheet takes no file.
+-- Why a step, an opening, a schedule file or an order place is refused, why the judge stops, why a sheet takes no file, and why a row is
+-- not begun.
 pub data Refusal : Type 0 where
   notWellFormed noHandler noCell alreadyOpen notOpen unknownStep : Refusal
   outOfRange tooShort : Refusal
   badFile usedUp : Refusal
   tooManyCommits : Refusal
-  sheetFull : Refusal
+  sheetFull noRoom : Refusal
 
 -- The reply to a step: a report, or a refusal.
 pub data Reply (W : Type 0) : Type 0 where
@@ -67,6 +68,7 @@ refusalNumber badFile = 30
 refusalNumber usedUp = 32
 refusalNumber tooManyCommits = 33
 refusalNumber sheetFull = 41
+refusalNumber noRoom = 42
 
 -- An answer in numbers: its kind (0 ok, 1 value, 2 commit, 3 abort, 4 refused), and its value or number, 0 where there is none.
 pub record Numbers : Type 0 where

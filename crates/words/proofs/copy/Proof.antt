@@ -3,7 +3,7 @@ use Prim.Native.Nat.{_+_, _≤_, _-_}
 use native.Mathlib.Omega.{arith}
 use lib.ListN.{getD}
 use Rattle.words.specs.Rows.{Changed}
-use Rattle.words.proofs.Changes.{changed-none, changed-more, changed-all}
+use Rattle.words.proofs.Changes.{changed-none, changed-more, changed-all, changed-apart}
 use Rattle.words.proofs.copy.Statement.{statement}
 use Rattle.words.proofs.copy.Tie as tie
 
@@ -32,7 +32,7 @@ copy-spec =
     (λ c. omega arith)
     -- one more turn
     (λ c. let changed = c .before .before .loop .inv .1 in
-    (omega arith, changed-more _ _ _ _ _ _ changed (omega arith) (changed .untouched .below _ (omega arith))))
+    (omega arith, changed-more _ _ _ _ _ _ changed (omega arith) (changed-apart _ _ changed (c .before .before .before .pre .0) (omega arith) (omega arith))))
     -- at the end
     (λ c. c .before .loop .inv .1 .untouched .size)
     (λ c. changed-all _ _ _ (c .before .loop .inv .1) (omega arith) (omega arith)))

@@ -1,65 +1,81 @@
 -- `steps::tries::commit` meets its contract: all numbers are stamped, then the written cells are stored, then the block is settled.
 use Prim.Native.Nat.{_+_, _≤_}
-use mathlib.Core.Path.{_≡_}
+use mathlib.Core.Path.{_≡_, refl, _∙_}
 use native.Mathlib.Omega.{arith}
 use lib.ListN.{length}
 use borrow.Author.Needs.{needs}
 use Rattle.layout.specs.Places.{handlerLong}
-use Rattle.steps.proofs.Lent.{block-lies, block-words, block-of}
-use Rattle.steps.proofs.Committing.{own-fits, commits}
+use Rattle.steps.proofs.Lent.{block-lies, block-of}
+use Rattle.steps.proofs.Committing.{raisable, row-behind, commits}
 use Rattle.steps.proofs.tries.commit.Statement.{statement}
 use Rattle.steps.proofs.tries.commit.Tie as tie
 
--- The handler's block lies in the words.
-lies : (c : tie.After-block-at) → let entry = c .before .before in
-    let from = c .block-at .result .start in
-    (from + handlerLong (entry .args .m) ≤ length (entry .args .body .now)) × (from ≤ 2640)
-lies c = omega (arith, block-lies (c .before .before .pre .0 .seated) (c .block-at .ensures))
+-- Where the function starts, seen from where the block was found.
+abbrev start : tie.After-block-at → tie.Start
+start c = c .before .before
 
--- What was there before the cells were stored, and before the block was settled.
-abbrev stored-from : tie.After-slice-known3 → tie.After-block-at
-stored-from c = c .before .before .before .before .before .before .before .before .before .before .before .before .before
+-- The handler's block lies in the words.
+lies : (c : tie.After-block-at) → let entry = start c in
+    let from = c .block-at .result .start in
+    (from + handlerLong (entry .args .m) ≤ length (entry .args .body .now)) × (from ≤ 2640) × (from ≤ c .block-at .result .end)
+    × (c .block-at .result .end ≤ length (entry .args .body .now))
+lies c = omega (arith, block-lies (start c .pre .seated) (c .block-at .ensures))
+
+-- Where the block was found, seen from where the copies are.
+abbrev found : tie.After-copies → tie.After-block-at
+found c = c .before .before .before
+
+-- Where the copies are, seen from where the cells have been stored.
+abbrev places : tie.After-store → tie.After-copies
+places c = c .before .before .before .before .before .before
 
 -- The stored words are as many as before.
-stored-long : (c : tie.After-slice-known3) → length (c .before .before .store .last .0) ≡ length (stored-from c .before .before .args .body .now)
-stored-long c = c .before .before .store .ensures .size
+stored-long : (c : tie.After-store) → length (c .store .last .0) ≡ length (start (found (places c)) .args .body .now)
+stored-long c = c .store .ensures .size ∙ c .before .before .before .before .stamp .ensures .untouched .size
+
+-- What is left is the rules' register.
+returns : tie.Need-returns
+returns c =
+    let store = c .before .before .before .before .before .before in
+    let copies = places store in
+    let at = found copies in
+    commits (start at .pre .seated) (at .block-at .ensures) (copies .before .transaction-numbers .ensures) (copies .copies .ensures)
+    (store .before .before .before .before .stamp .ensures) (store .store .ensures) (c .before .before .settle .ensures)
 
 pub commit-spec : {M : Type 1} → statement M
 commit-spec =
     tie.close
     (tie.spec
     (λ c κs. search needs)
-    -- the block is looked at
+    -- the written set, and where the rows are
+    (λ c. search needs)
     (λ c. omega (arith, lies c))
-    (λ c. omega arith)
-    (λ c. search needs)
-    (λ c. let at = c .before in omega (arith, lies at, at .block-at .ensures .ends, at .block-at .ensures .starts))
-    (λ c κs. let at = c .before .before in
-    let (ready, own) = at .before .before .pre in
-    (block-words (ready .seated) (at .block-at .ensures), own-fits (ready .seated) (at .block-at .ensures) own))
-    -- the copies are copied out, and the written set
+    (λ c. omega (arith, lies (c .before)))
     (λ c κs. search needs)
-    (λ c. omega (arith, lies (c .before .before .before .before .before)))
-    (λ c κs. omega (arith, lies (c .before .before .before .before .before)))
-    (λ c. omega (arith, lies (c .before .before .before .before .before .before)))
-    (λ c. omega (arith, lies (c .before .before .before .before .before .before)))
-    (λ c. omega (arith, lies (c .before .before .before .before .before .before .before)))
+    (λ c. search needs)
+    (λ c κs. search needs)
+    (λ c. search needs)
+    -- the numbers are stamped
+    (λ c κs. let copies = c .before in
+    let at = found copies in
+    let seated = start at .pre .seated in
+    (row-behind seated (at .block-at .ensures) (copies .before .transaction-numbers .ensures) (omega arith) refl, raisable seated))
     -- the cells are stored
-    (λ c κs. let formed = c .before .before .before .before .before .before .before .before .before .before .before .before .pre .0 .seated .formed in
-    omega (arith, formed .few, formed .good .long))
+    (λ c κs. let stamp = c .before .before .before in
+    let copies = stamp .before .before in
+    let at = found copies in
+    let seated = start at .pre .seated in
+    let size = stamp .stamp .ensures .untouched .size in (
+      row-behind seated (at .block-at .ensures) (copies .before .transaction-numbers .ensures) (omega arith) size,
+      row-behind seated (at .block-at .ensures) (copies .copies .ensures) (omega arith) size,
+    ))
     -- the block is settled
-    (λ c. omega (arith, lies (stored-from c)))
-    (λ c. omega arith)
     (λ c. search needs)
-    (λ c. let at = stored-from c in
-    omega (arith, lies at, at .block-at .ensures .ends, at .block-at .ensures .starts, stored-long c))
-    (λ c κs. let at = stored-from (c .before .before) in
-    block-of (at .before .before .pre .0 .seated) (at .block-at .ensures) _ (stored-long (c .before .before)))
     (λ c. search needs)
-    (λ c. let at = stored-from (c .before .before .before .before .before) in
-    let (ready, own) = at .before .before .pre in
-    let stored = c .before .before .before .before .before .before .before in
-    let copied = stored .before .before .before .before .before in
-    commits (ready .seated) (at .block-at .ensures) (copied .before .copies .ensures) own (copied .before .before .before .stamps .ensures)
-    (copied .copy-out .ensures)
-    (stored .store .ensures) (c .before .before .settle .ensures)))
+    (λ c. search needs)
+    (λ c. let store = c .before .before in omega (arith, lies (found (places store)), stored-long store))
+    (λ c κs. let store = c .before .before .before in
+    let at = found (places store) in
+    block-of (start at .pre .seated) (at .block-at .ensures) _ (stored-long store))
+    (λ c. search needs)
+    returns)

@@ -22,32 +22,32 @@ pub struct Row {
 
 pub const SIZES: [(u32, u32); 3] = [(2, 2), (8, 4), (32, 16)];
 
-const BEGIN: u32 = steps::BEGIN.code as u32;
-const TRY: u32 = steps::TRY.code as u32;
+pub const BEGIN: u32 = steps::BEGIN.code as u32;
+pub const TRY: u32 = steps::TRY.code as u32;
 const GIVE_UP: u32 = steps::GIVE_UP.code as u32;
 const TOO_LARGE: u32 = 65_536;
 
 /// The code that reads a cell.
-fn read(cell: u32) -> u32 {
+pub fn read(cell: u32) -> u32 {
     steps::read(cell as u8).code.into()
 }
 
 /// The code that writes a cell.
-fn write(cell: u32) -> u32 {
+pub fn write(cell: u32) -> u32 {
     steps::write(cell as u8, 0).code.into()
 }
 
 /// A register on its way to what a row needs. The last handler's step is measured, with the last cell.
 #[derive(Clone)]
-struct State {
-    m: u32,
-    n: u32,
-    words: Vec<u32>,
+pub struct State {
+    pub m: u32,
+    pub n: u32,
+    pub words: Vec<u32>,
 }
 
 impl State {
     /// A register where each cell was written three times by handler 0.
-    fn lived(m: u32, n: u32) -> Self {
+    pub fn lived(m: u32, n: u32) -> Self {
         let mut state = State { m, n, words: vec![0; register::length(m, n).expect("in range")] };
         register::open(&mut state.words, m, n).expect("it has room");
         for _ in 0..3 {
@@ -67,7 +67,7 @@ impl State {
     }
 
     /// The register after steps of a handler, none of which is refused or aborts.
-    fn after(mut self, handler: u32, codes: &[u32]) -> Self {
+    pub fn after(mut self, handler: u32, codes: &[u32]) -> Self {
         for &code in codes {
             let reply = register::step(&mut self.words, handler, code, 1000 + code);
             assert!(matches!(reply, Reply::Ok | Reply::Value(_) | Reply::Commit), "handler {handler} code {code}: {reply:?}");

@@ -1,0 +1,2 @@
+-- Laws of a search among the cells of a set.
+pub mod Cells

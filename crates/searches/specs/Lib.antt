@@ -1,0 +1,2 @@
+-- What is looked for among the cells of a set.
+pub mod Searches
