@@ -54,7 +54,7 @@ pub fn run_into(file: &[u8], output: &mut [u8]) -> usize {
 ///
 /// ```
 /// let file = [1, 1, 0, 10, 0, 0, 0, 10, 0, 0];
-/// let mut output = [b'-'; 48];
+/// let mut output = [b'-'; 46];
 /// let length = zidlemowo::judge_into(&file, &mut output);
 /// assert_eq!(&output[..length], b"handlers 1 cells 1\ncell 0 unset number 0\n");
 /// assert_eq!(&output[length..], b"-----");

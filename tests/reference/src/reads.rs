@@ -5,18 +5,18 @@ use crate::register::Reply;
 
 /// What a comparison has to meet, or it shows nothing of what is unset and what is 0.
 pub const READS: [&str; 12] = [
-    "first read, number 0, word 0",
-    "first read, number 0, word not 0",
-    "first read, number not 0, word 0",
-    "first read, number not 0, word not 0",
-    "later read, number 0, word 0",
-    "later read, number 0, word not 0",
-    "later read, number not 0, word 0",
-    "later read, number not 0, word not 0",
-    "own write read, number 0, word 0",
-    "own write read, number 0, word not 0",
-    "own write read, number not 0, word 0",
-    "own write read, number not 0, word not 0",
+    "first read with number 0 and word 0",
+    "first read with number 0 and word not 0",
+    "first read with number not 0 and word 0",
+    "first read with number not 0 and word not 0",
+    "later read with number 0 and word 0",
+    "later read with number 0 and word not 0",
+    "later read with number not 0 and word 0",
+    "later read with number not 0 and word not 0",
+    "own write read with number 0 and word 0",
+    "own write read with number 0 and word not 0",
+    "own write read with number not 0 and word 0",
+    "own write read with number not 0 and word not 0",
 ];
 
 /// The name of a step with this reply on these words before it; none where it is no read, or one that is refused or aborts.
