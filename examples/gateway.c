@@ -1,8 +1,8 @@
 // A depot with two sites and one register: cell 0 says which mast stands at the north site, cell 1 which at the south site, 0 for
-// none. The desk and two feed handlers share it. The desk brings the northern mast to the south site; while it does, the north feed
-// reports another mast there, so the desk's try is aborted, and the desk begins anew until it commits. Then the south feed begins to
-// report a mast that drops off the air: it gives up, and nothing of its report is kept. At last its line is up again, and the reports that
-// have gathered come as a burst: all of their steps are taken in one call.
+// none; a site of which nothing was ever reported is unset. The desk and two feed handlers share it. The desk brings the northern mast to
+// the south site; while it does, the north feed reports another mast there, so the desk's try is aborted, and the desk begins anew until it
+// commits. Then the south feed begins to report a mast that drops off the air: it gives up, and nothing of its report is kept. At last its
+// line is up again, and the reports that have gathered come as a burst: all of their steps are taken in one call.
 #include "zidlemowo.h"
 
 #include <inttypes.h>
@@ -28,12 +28,16 @@ struct depot {
 // Whether a reply ended the transaction with nothing of it kept.
 static bool aborted(uint64_t reply) { return zidlemowo_kind(reply) == ZIDLEMOWO_ABORT; }
 
-// Takes a step whose reply has to be of the expected kind; an abort may come in the place of a value or a commit. Any other reply is a
-// mistake of this program and ends it.
+// Whether a read found a cell that no commit has written: not the same as a site that was reported empty, which is 0.
+static bool unset(uint64_t reply) { return zidlemowo_kind(reply) == ZIDLEMOWO_UNSET; }
+
+// Takes a step whose reply has to be of the expected kind; unset may come in the place of a value, and an abort in the place of a value or
+// a commit. Any other reply is a mistake of this program and ends it.
 static uint64_t take(struct depot *depot, uint32_t handler, uint32_t code, uint32_t value, uint32_t expected) {
     const uint64_t reply = zidlemowo_step(depot->words, LENGTH, handler, code, value);
     const bool may_abort = expected == ZIDLEMOWO_VALUE || expected == ZIDLEMOWO_COMMIT;
-    if (zidlemowo_kind(reply) != expected && !(may_abort && aborted(reply))) {
+    const bool may_be_unset = expected == ZIDLEMOWO_VALUE;
+    if (zidlemowo_kind(reply) != expected && !(may_abort && aborted(reply)) && !(may_be_unset && unset(reply))) {
         fprintf(stderr, "handler %" PRIu32 ", code %" PRIu32 ": %s\n", handler, code,
                 zidlemowo_text(zidlemowo_kind(reply), zidlemowo_detail(reply)));
         exit(EXIT_FAILURE);
@@ -89,6 +93,10 @@ static uint64_t move_south(struct depot *depot, uint32_t meanwhile) {
     if (aborted(found)) {
         return found;
     }
+    if (unset(found)) {
+        printf("desk: the north site was never reported\n");
+        return try_to_commit(depot, DESK);
+    }
     printf("desk: mast %" PRIu32 " goes south\n", zidlemowo_detail(found));
     write_site(depot, DESK, NORTH, 0);
     write_site(depot, DESK, SOUTH, zidlemowo_detail(found));
@@ -135,6 +143,15 @@ static void burst(struct depot *depot) {
     }
 }
 
+// Prints what was found at a site.
+static void print_site(const char *name, uint64_t found) {
+    if (unset(found)) {
+        printf("%s never reported", name);
+    } else {
+        printf("%s %" PRIu32, name, zidlemowo_detail(found));
+    }
+}
+
 // The south feed looks at both sites in one transaction.
 static uint64_t look(struct depot *depot) {
     begin(depot, SOUTH_FEED);
@@ -146,7 +163,9 @@ static uint64_t look(struct depot *depot) {
     if (aborted(south)) {
         return south;
     }
-    printf("south feed: north %" PRIu32 ", south %" PRIu32 "\n", zidlemowo_detail(north), zidlemowo_detail(south));
+    print_site("south feed: north", north);
+    print_site(", south", south);
+    printf("\n");
     return try_to_commit(depot, SOUTH_FEED);
 }
 
@@ -159,7 +178,11 @@ int main(void) {
     }
     printf("open: %d cells, %d handlers, %zu words\n", SITES, HANDLERS, LENGTH);
 
+    while (again("desk", move_south(&depot, 0))) {
+    }
     report(&depot, 7);
+    while (again("south feed", look(&depot))) {
+    }
     uint32_t meanwhile = 9;
     while (again("desk", move_south(&depot, meanwhile))) {
         meanwhile = 0;

@@ -31,9 +31,13 @@
 
 // The version of this header and its library: of its functions, its numbers, and the layout of the words of a register, a row and a
 // sheet.
-#define ZIDLEMOWO_VERSION "0.3.0"
+//
+// Since 0.4.0 a read of a cell that no commit has written replies ZIDLEMOWO_UNSET, a kind of its own, and no longer the value 0, so that it
+// is told from a cell that was written as 0. A caller who takes every reply to a read that is no abort for a value has to look at the
+// kind; where both are to be 0 as before, the detail, which is 0 too, may be taken. Words that were kept go on as they are.
+#define ZIDLEMOWO_VERSION "0.4.0"
 #define ZIDLEMOWO_VERSION_MAJOR 0 // the parts, for the preprocessor
-#define ZIDLEMOWO_VERSION_MINOR 3
+#define ZIDLEMOWO_VERSION_MINOR 4
 #define ZIDLEMOWO_VERSION_PATCH 0
 
 #ifdef __cplusplus
@@ -92,6 +96,7 @@ enum {
     ZIDLEMOWO_COMMIT = 2,  // commit: a try stored what the transaction wrote and ended it; the detail is 0
     ZIDLEMOWO_ABORT = 3,   // abort: the transaction is ended, nothing of it is kept; the detail is the reason
     ZIDLEMOWO_REFUSED = 4, // refused: nothing is changed; the detail is the refusal
+    ZIDLEMOWO_UNSET = 5,   // unset: a read found that no commit had written the cell, nor this transaction; the detail is 0
 };
 
 // Reasons of an abort, which are outcomes and no mistakes. After 1 or 2 the transaction may be begun anew. 5 is what a give up gives, and
@@ -136,7 +141,8 @@ enum {
 uint32_t zidlemowo_length(uint32_t m, uint32_t n);
 
 // Opens a register of m cells and n handlers in front of `length` words, whatever they hold: all values, numbers, phases, sets and
-// copies are 0. Gives 0 for ready, or the refusal, ZIDLEMOWO_OUT_OF_RANGE or ZIDLEMOWO_TOO_SHORT, which changes nothing.
+// copies are 0, so that every cell is unset. Gives 0 for ready, or the refusal, ZIDLEMOWO_OUT_OF_RANGE or ZIDLEMOWO_TOO_SHORT, which
+// changes nothing.
 uint32_t zidlemowo_open(uint32_t *words, size_t length, uint32_t m, uint32_t n);
 
 // Takes the step of a handler (0 to n - 1) on the register in front of `length` words. `value` is what a write writes; no other
@@ -185,7 +191,7 @@ size_t zidlemowo_judge(const uint8_t *file, size_t file_length, uint8_t *output,
 // Words behind the 96 are never changed. The file is read only, and the two must not overlap; either may be NULL where its length is 0.
 uint32_t zidlemowo_sheet(uint32_t *counts, size_t length, const uint8_t *file, size_t file_length);
 
-// The kind of a reply to a step: ZIDLEMOWO_OK to ZIDLEMOWO_REFUSED.
+// The kind of a reply to a step: ZIDLEMOWO_OK to ZIDLEMOWO_UNSET.
 static inline uint32_t zidlemowo_kind(uint64_t reply) { return (uint32_t)(reply >> 32); }
 
 // The detail of a reply to a step: the value read, the reason of an abort, the refusal, or 0.
@@ -247,6 +253,7 @@ static inline const char *zidlemowo_text(uint32_t kind, uint32_t detail) {
     case ZIDLEMOWO_COMMIT: return detail == 0 ? "committed" : zidlemowo_no_text();
     case ZIDLEMOWO_ABORT: return zidlemowo_reason_text(detail);
     case ZIDLEMOWO_REFUSED: return zidlemowo_refusal_text(detail);
+    case ZIDLEMOWO_UNSET: return detail == 0 ? "an unset cell was read" : zidlemowo_no_text();
     default: return zidlemowo_no_text();
     }
 }

@@ -6,7 +6,7 @@ use zidlemowo::{NotCommitted, Register, Shared, Stopped, Transaction};
 
 const DESK: u32 = 0;
 const FEED: u32 = 1;
-const SLOTS: u32 = 3;
+const SLOTS: u32 = 4;
 
 /// Why the desk moves nothing.
 #[derive(Debug)]
@@ -32,10 +32,16 @@ impl fmt::Display for NotMoved {
     }
 }
 
-/// The first slot with no mast. A cell never written reads as 0, which is no mast's number here.
+/// The mast of a slot, if one stands there. The desk writes 0, which is no mast's number, where it has taken one away; a slot that was never
+/// used has no value at all.
+fn mast_in(transaction: &mut Transaction<'_>, slot: u32) -> Result<Option<u32>, Stopped> {
+    Ok(transaction.read(slot)?.filter(|&mast| mast != 0))
+}
+
+/// The first slot with no mast.
 fn empty_slot(transaction: &mut Transaction<'_>) -> Result<u32, NotMoved> {
     for slot in 0..SLOTS {
-        if transaction.read(slot)? == 0 {
+        if mast_in(transaction, slot)?.is_none() {
             return Ok(slot);
         }
     }
@@ -45,10 +51,7 @@ fn empty_slot(transaction: &mut Transaction<'_>) -> Result<u32, NotMoved> {
 /// The desk moves the mast of a slot to the first empty one; `meanwhile` is what happens elsewhere before it writes.
 fn move_mast(shared: &Shared<'_>, from: u32, mut meanwhile: impl FnMut()) -> Result<(), NotCommitted<NotMoved>> {
     shared.transact(DESK, 5, |transaction| {
-        let mast = transaction.read(from)?;
-        if mast == 0 {
-            return Err(NotMoved::NoMast(from));
-        }
+        let mast = mast_in(transaction, from)?.ok_or(NotMoved::NoMast(from))?;
         let to = empty_slot(transaction)?;
         println!("desk: mast {mast} from slot {from} to slot {to}");
         meanwhile();
@@ -81,7 +84,11 @@ fn main() -> Result<(), Box<dyn Error>> {
     }
 
     for slot in 0..SLOTS {
-        println!("slot {slot}: mast {}", shared.transact(DESK, 1, |transaction| transaction.read(slot))?);
+        match shared.transact(DESK, 1, |transaction| transaction.read(slot))? {
+            None => println!("slot {slot}: never used"),
+            Some(0) => println!("slot {slot}: empty"),
+            Some(mast) => println!("slot {slot}: mast {mast}"),
+        }
     }
     Ok(())
 }

@@ -15,15 +15,18 @@
 //! assert_eq!(register.try_commit(1), Ok(Ok(())));
 //!
 //! // The desk moves it to slot 1, as one transaction of at most three attempts.
-//! let moved = register.transact(0, 3, |transaction| -> Result<u32, Stopped> {
-//!     let mast = transaction.read(0)?;
+//! let moved = register.transact(0, 3, |transaction| -> Result<Option<u32>, Stopped> {
+//!     let Some(mast) = transaction.read(0)? else { return Ok(None) };
 //!     transaction.write(0, 0)?;
 //!     transaction.write(1, mast)?;
-//!     Ok(mast)
+//!     Ok(Some(mast))
 //! })?;
-//! assert_eq!(moved, 17);
+//! assert_eq!(moved, Some(17));
 //! # Ok::<(), Box<dyn std::error::Error>>(())
 //! ```
+//!
+//! A read of a cell that no commit has written finds no value, which is not the value 0: it gives `None`, and a cell that was written as 0
+//! `Some(0)`.
 //!
 //! A refusal is an error: nothing was changed. An abort is a normal outcome of a read or a try: it ends the transaction, of which
 //! nothing is kept. So a step that can abort gives a result within a result, as in `Ok(Err(Abort::Overtaken))`.
@@ -43,7 +46,7 @@
 //! });
 //! assert_eq!(given_up, Err(NotCommitted::GaveUp("the mast is off the air")));
 //! assert_eq!(register.try_commit(0), Err(Refusal::NotOpen));
-//! assert_eq!(register.transact(0, 1, |transaction| transaction.read(0)), Ok(0));
+//! assert_eq!(register.transact(0, 1, |transaction| transaction.read(0)), Ok(None));
 //! # Ok::<(), Refusal>(())
 //! ```
 //!

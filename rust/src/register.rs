@@ -81,7 +81,7 @@ impl<'a> Register<'a> {
     ///
     /// let mut kept = first.words().to_vec();
     /// let mut second = Register::resume(&mut kept);
-    /// assert_eq!(second.read(0, 0), Ok(Ok(5)));
+    /// assert_eq!(second.read(0, 0), Ok(Ok(Some(5))));
     /// assert_eq!(Register::resume(&mut []).begin(0), Err(Refusal::NotWellFormed));
     /// # Ok::<(), Refusal>(())
     /// ```
@@ -133,7 +133,7 @@ impl<'a> Register<'a> {
     ///
     /// let mut register = Register::new(2, 1)?;
     /// assert_eq!(register.take(0, Step::Begin), Reply::Done);
-    /// assert_eq!(register.take(0, Step::Read(1)), Reply::Value(0));
+    /// assert_eq!(register.take(0, Step::Read(1)), Reply::Unset);
     /// assert_eq!(register.take(0, Step::Read(31)), Reply::Refused(Refusal::NoCell));
     /// assert_eq!(register.take(0, Step::Read(32)), Reply::Refused(Refusal::UnknownStep));
     /// assert_eq!(register.take(0, Step::Try), Reply::Committed);
@@ -194,7 +194,8 @@ impl<'a> Register<'a> {
         self.take(handler, Step::Begin).outcome().map(|_| ())
     }
 
-    /// Reads a cell in the handler's transaction: its value, or the abort that has ended the transaction.
+    /// Reads a cell in the handler's transaction: its value, or the abort that has ended the transaction. There is no value where no commit
+    /// has written the cell, and neither has this transaction; later reads find what the first one found.
     ///
     /// ```
     /// use zidlemowo::{Refusal, Register};
@@ -202,10 +203,12 @@ impl<'a> Register<'a> {
     /// let mut register = Register::new(2, 1)?;
     /// assert_eq!(register.read(0, 1), Err(Refusal::NotOpen));
     /// register.begin(0)?;
-    /// assert_eq!(register.read(0, 1), Ok(Ok(0)));
+    /// assert_eq!(register.read(0, 1), Ok(Ok(None)));
+    /// register.write(0, 1, 0)?;
+    /// assert_eq!(register.read(0, 1), Ok(Ok(Some(0))));
     /// # Ok::<(), Refusal>(())
     /// ```
-    pub fn read(&mut self, handler: u32, cell: u32) -> Result<Result<u32, Abort>, Refusal> {
+    pub fn read(&mut self, handler: u32, cell: u32) -> Result<Result<Option<u32>, Abort>, Refusal> {
         self.take(handler, Step::Read(cell)).outcome()
     }
 
@@ -231,7 +234,7 @@ impl<'a> Register<'a> {
     ///
     /// let mut register = Register::new(2, 2)?;
     /// register.begin(0)?;
-    /// assert_eq!(register.read(0, 0), Ok(Ok(0)));
+    /// assert_eq!(register.read(0, 0), Ok(Ok(None)));
     /// register.begin(1)?;
     /// register.write(1, 0, 5)?;
     /// assert_eq!(register.try_commit(1), Ok(Ok(())));
@@ -252,7 +255,7 @@ impl<'a> Register<'a> {
     /// register.write(0, 1, 7)?;
     /// assert_eq!(register.give_up(0), Ok(()));
     /// assert_eq!(register.give_up(0), Err(Refusal::NotOpen));
-    /// assert_eq!(register.transact(0, 1, |transaction| transaction.read(1)), Ok(0));
+    /// assert_eq!(register.transact(0, 1, |transaction| transaction.read(1)), Ok(None));
     /// # Ok::<(), Refusal>(())
     /// ```
     pub fn give_up(&mut self, handler: u32) -> Result<(), Refusal> {
@@ -273,7 +276,7 @@ impl<'a> Register<'a> {
     ///
     /// let mut register = Register::new(2, 1)?;
     /// let raised = register.transact(0, 3, |transaction| -> Result<u32, Stopped> {
-    ///     let value = transaction.read(0)? + 1;
+    ///     let value = transaction.read(0)?.unwrap_or(0) + 1;
     ///     transaction.write(0, value)?;
     ///     Ok(value)
     /// });

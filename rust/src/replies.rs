@@ -8,6 +8,7 @@ use std::fmt;
 /// use zidlemowo::{Abort, Refusal, Reply};
 ///
 /// assert_eq!(Reply::Value(5).to_string(), "value 5");
+/// assert_eq!(Reply::Unset.to_string(), "unset");
 /// assert_eq!(Reply::Aborted(Abort::Torn).to_string(), "abort 1");
 /// assert_eq!(Reply::Refused(Refusal::NoCell).to_string(), "refused 12");
 /// ```
@@ -23,6 +24,8 @@ pub enum Reply {
     Aborted(Abort),
     /// Refused: nothing is changed.
     Refused(Refusal),
+    /// What a read found in a cell that no commit had written, nor its own transaction. A cell that was written as 0 is `Value(0)`.
+    Unset,
 }
 
 impl Reply {
@@ -38,6 +41,7 @@ impl Reply {
             Reply::Committed => 2,
             Reply::Aborted(_) => 3,
             Reply::Refused(_) => 4,
+            Reply::Unset => 5,
         }
     }
 
@@ -48,7 +52,7 @@ impl Reply {
     /// ```
     pub fn detail(self) -> u32 {
         match self {
-            Reply::Done | Reply::Committed => 0,
+            Reply::Done | Reply::Committed | Reply::Unset => 0,
             Reply::Value(value) => value,
             Reply::Aborted(abort) => abort.number(),
             Reply::Refused(refusal) => refusal.number(),
@@ -70,6 +74,7 @@ impl Reply {
             Reply::Committed => "committed",
             Reply::Aborted(abort) => abort.text(),
             Reply::Refused(refusal) => refusal.text(),
+            Reply::Unset => "an unset cell was read",
         }
     }
 
@@ -88,6 +93,7 @@ impl Reply {
             (2, 0) => Some(Reply::Committed),
             (3, number) => Abort::from_number(number).map(Reply::Aborted),
             (4, number) => Refusal::from_number(number).map(Reply::Refused),
+            (5, 0) => Some(Reply::Unset),
             _ => None,
         }
     }
@@ -97,18 +103,21 @@ impl Reply {
         Reply::from_numbers((packed >> 32) as u32, packed as u32).expect("a step is replied to with numbers of docs/REPLIES.md")
     }
 
-    /// The reply as a result: a refusal is an error, an abort an outcome, and of anything else the detail is left.
+    /// The reply as a result: a refusal is an error, an abort an outcome, and of anything else the value is left that was read, if one was.
     ///
     /// ```
     /// use zidlemowo::{Abort, Refusal, Reply};
     ///
-    /// assert_eq!(Reply::Value(5).outcome(), Ok(Ok(5)));
+    /// assert_eq!(Reply::Value(0).outcome(), Ok(Ok(Some(0))));
+    /// assert_eq!(Reply::Unset.outcome(), Ok(Ok(None)));
+    /// assert_eq!(Reply::Committed.outcome(), Ok(Ok(None)));
     /// assert_eq!(Reply::Aborted(Abort::Torn).outcome(), Ok(Err(Abort::Torn)));
     /// assert_eq!(Reply::Refused(Refusal::NoCell).outcome(), Err(Refusal::NoCell));
     /// ```
-    pub fn outcome(self) -> Result<Result<u32, Abort>, Refusal> {
+    pub fn outcome(self) -> Result<Result<Option<u32>, Abort>, Refusal> {
         match self {
-            Reply::Done | Reply::Value(_) | Reply::Committed => Ok(Ok(self.detail())),
+            Reply::Value(value) => Ok(Ok(Some(value))),
+            Reply::Done | Reply::Unset | Reply::Committed => Ok(Ok(None)),
             Reply::Aborted(abort) => Ok(Err(abort)),
             Reply::Refused(refusal) => Err(refusal),
         }
@@ -123,6 +132,7 @@ impl fmt::Display for Reply {
             Reply::Committed => write!(to, "commit"),
             Reply::Aborted(abort) => write!(to, "abort {}", abort.number()),
             Reply::Refused(refusal) => write!(to, "refused {}", refusal.number()),
+            Reply::Unset => write!(to, "unset"),
         }
     }
 }

@@ -11,10 +11,12 @@ use crate::step::Step;
 /// use zidlemowo::{Register, Reply, Row, Step};
 ///
 /// let mut register = Register::new(2, 2)?;
-/// let row = Row::from([(1, Step::Begin), (1, Step::Write(0, 17)), (1, Step::Try), (0, Step::Begin), (0, Step::Read(0))]);
+/// let mut row = Row::from([(1, Step::Begin), (1, Step::Write(0, 17)), (1, Step::Try)]);
+/// row.extend([(0, Step::Begin), (0, Step::Read(0)), (0, Step::Read(1))]);
 /// let reports = register.row(&row)?;
 /// assert_eq!(reports[2].reply, Reply::Committed);
 /// assert_eq!(reports[4].reply, Reply::Value(17));
+/// assert_eq!(reports[5].reply, Reply::Unset);
 /// # Ok::<(), zidlemowo::Refusal>(())
 /// ```
 #[derive(Clone, Debug, Default, PartialEq, Eq, Hash)]
@@ -162,6 +164,7 @@ impl Report {
     /// use zidlemowo::{Report, Reply};
     ///
     /// assert_eq!(Report::from_words([2, 33, 1, 7]), Some(Report { handler: 2, code: 33, reply: Reply::Value(7) }));
+    /// assert_eq!(Report::from_words([2, 33, 5, 0]), Some(Report { handler: 2, code: 33, reply: Reply::Unset }));
     /// assert_eq!(Report::from_words([2, 33, 5, 7]), None);
     /// ```
     pub fn from_words([handler, code, kind, detail]: [u32; Report::WORDS]) -> Option<Report> {

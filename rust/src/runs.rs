@@ -30,7 +30,7 @@ pub fn run(file: &[u8]) -> Vec<u8> {
 /// file.extend([0; 130]);
 /// let judged = zidlemowo::judge(&file);
 /// assert!(judged.ends_with(b"\n128 0 0 ok\n129 0 1 refused 33\n"));
-/// assert!(zidlemowo::run(&file).ends_with(b"\n129 0 1 commit\ncell 0 value 0 number 0\n"));
+/// assert!(zidlemowo::run(&file).ends_with(b"\n129 0 1 commit\ncell 0 unset number 0\n"));
 /// ```
 pub fn judge(file: &[u8]) -> Vec<u8> {
     whole(file, judge_into)
@@ -54,9 +54,9 @@ pub fn run_into(file: &[u8], output: &mut [u8]) -> usize {
 ///
 /// ```
 /// let file = [1, 1, 0, 10, 0, 0, 0, 10, 0, 0];
-/// let mut output = [b'-'; 48];
+/// let mut output = [b'-'; 46];
 /// let length = zidlemowo::judge_into(&file, &mut output);
-/// assert_eq!(&output[..length], b"handlers 1 cells 1\ncell 0 value 0 number 0\n");
+/// assert_eq!(&output[..length], b"handlers 1 cells 1\ncell 0 unset number 0\n");
 /// assert_eq!(&output[length..], b"-----");
 /// ```
 pub fn judge_into(file: &[u8], output: &mut [u8]) -> usize {

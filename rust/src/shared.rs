@@ -19,7 +19,7 @@ use std::sync::{Mutex, MutexGuard, PoisonError};
 ///         scope.spawn(move || {
 ///             let raise = |transaction: &mut zidlemowo::Transaction<'_>| -> Result<(), Stopped> {
 ///                 let value = transaction.read(0)?;
-///                 transaction.write(0, value + 1)
+///                 transaction.write(0, value.unwrap_or(0) + 1)
 ///             };
 ///             for _ in 0..100 {
 ///                 shared.transact(handler, u32::MAX, raise).unwrap();
@@ -27,7 +27,7 @@ use std::sync::{Mutex, MutexGuard, PoisonError};
 ///         });
 ///     }
 /// });
-/// assert_eq!(shared.transact(0, 1, |transaction| transaction.read(0)), Ok(400));
+/// assert_eq!(shared.transact(0, 1, |transaction| transaction.read(0)), Ok(Some(400)));
 /// # Ok::<(), zidlemowo::Refusal>(())
 /// ```
 #[derive(Debug)]
@@ -113,7 +113,7 @@ impl<'a> Shared<'a> {
     ///
     /// let shared = Shared::new(Register::new(2, 2)?);
     /// let mut attempts = 0;
-    /// let found = shared.transact(0, 3, |transaction| -> Result<u32, Stopped> {
+    /// let found = shared.transact(0, 3, |transaction| -> Result<Option<u32>, Stopped> {
     ///     attempts += 1;
     ///     let found = transaction.read(0)?;
     ///     if attempts == 1 {
@@ -124,7 +124,7 @@ impl<'a> Shared<'a> {
     ///     }
     ///     Ok(found)
     /// });
-    /// assert_eq!((found, attempts), (Ok(5), 2));
+    /// assert_eq!((found, attempts), (Ok(Some(5)), 2));
     /// # Ok::<(), zidlemowo::Refusal>(())
     /// ```
     pub fn transact<T, E>(

@@ -72,8 +72,8 @@ type Take<'t> = dyn FnMut(u32, Step) -> Reply + 't;
 ///
 /// fn swap(transaction: &mut Transaction<'_>) -> Result<(), Stopped> {
 ///     let (first, second) = (transaction.read(0)?, transaction.read(1)?);
-///     transaction.write(0, second)?;
-///     transaction.write(1, first)
+///     transaction.write(0, second.unwrap_or(0))?;
+///     transaction.write(1, first.unwrap_or(0))
 /// }
 ///
 /// assert_eq!(Register::new(2, 1)?.transact(0, 3, swap), Ok(()));
@@ -100,14 +100,14 @@ impl fmt::Debug for Transaction<'_> {
 }
 
 impl Transaction<'_> {
-    /// Reads a cell.
+    /// Reads a cell: its value, or none where no commit has written the cell, and neither has this transaction.
     ///
     /// ```
     /// # let mut register = zidlemowo::Register::new(2, 1)?;
-    /// assert_eq!(register.transact(0, 1, |transaction| transaction.read(1)), Ok(0));
+    /// assert_eq!(register.transact(0, 1, |transaction| transaction.read(1)), Ok(None));
     /// # Ok::<(), zidlemowo::Refusal>(())
     /// ```
-    pub fn read(&mut self, cell: u32) -> Result<u32, Stopped> {
+    pub fn read(&mut self, cell: u32) -> Result<Option<u32>, Stopped> {
         self.step(Step::Read(cell))
     }
 
@@ -116,14 +116,14 @@ impl Transaction<'_> {
     /// ```
     /// # let mut register = zidlemowo::Register::new(2, 1)?;
     /// assert_eq!(register.transact(0, 1, |transaction| transaction.write(1, 6)), Ok(()));
-    /// assert_eq!(register.transact(0, 1, |transaction| transaction.read(1)), Ok(6));
+    /// assert_eq!(register.transact(0, 1, |transaction| transaction.read(1)), Ok(Some(6)));
     /// # Ok::<(), zidlemowo::Refusal>(())
     /// ```
     pub fn write(&mut self, cell: u32, value: u32) -> Result<(), Stopped> {
         self.step(Step::Write(cell, value)).map(|_| ())
     }
 
-    fn step(&mut self, step: Step) -> Result<u32, Stopped> {
+    fn step(&mut self, step: Step) -> Result<Option<u32>, Stopped> {
         if let Phase::Aborted(abort) = self.phase {
             return Err(Stopped::Aborted(abort));
         }

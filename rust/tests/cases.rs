@@ -14,8 +14,8 @@ fn commits(register: &mut Register<'_>, handler: u32, writes: &[(u32, u32)]) {
     assert_eq!(register.try_commit(handler), Ok(Ok(())));
 }
 
-/// A transaction of the handler is begun, and its first read finds this.
-fn begins_and_reads(register: &mut Register<'_>, handler: u32, cell: u32, found: u32) {
+/// A transaction of the handler is begun, and its first read finds this: a value, or that the cell is unset.
+fn begins_and_reads(register: &mut Register<'_>, handler: u32, cell: u32, found: Option<u32>) {
     assert_eq!(register.begin(handler), Ok(()));
     assert_eq!(register.read(handler, cell), Ok(Ok(found)));
 }
@@ -61,7 +61,7 @@ fn k5_own_write() {
     let mut register = register(2);
     assert_eq!(register.begin(0), Ok(()));
     assert_eq!(register.write(0, 0, 5), Ok(()));
-    assert_eq!(register.read(0, 0), Ok(Ok(5)));
+    assert_eq!(register.read(0, 0), Ok(Ok(Some(5))));
     commits(&mut register, 1, &[(0, 9)]);
     assert_eq!(register.try_commit(0), Ok(Ok(())));
     assert_eq!(cell(&register, 0), (5, [2, 0]));
@@ -71,7 +71,7 @@ fn k5_own_write() {
 fn k6_stale_read() {
     for writes_too in [false, true] {
         let mut register = register(2);
-        begins_and_reads(&mut register, 0, 0, 0);
+        begins_and_reads(&mut register, 0, 0, None);
         commits(&mut register, 1, &[(0, 5)]);
         if writes_too {
             assert_eq!(register.write(0, 0, 7), Ok(()));
@@ -109,9 +109,9 @@ fn k7_the_listing() {
 #[test]
 fn k8_past_through_a_read() {
     let mut register = register(3);
-    begins_and_reads(&mut register, 0, 0, 0);
+    begins_and_reads(&mut register, 0, 0, None);
     commits(&mut register, 1, &[(0, 5)]);
-    begins_and_reads(&mut register, 2, 0, 5);
+    begins_and_reads(&mut register, 2, 0, Some(5));
     assert_eq!(register.write(2, 1, 6), Ok(()));
     assert_eq!(register.try_commit(2), Ok(Ok(())));
     assert_eq!(register.read(0, 1), Ok(Err(Abort::Torn)));
@@ -121,7 +121,7 @@ fn k8_past_through_a_read() {
 #[test]
 fn k9_past_through_a_handler() {
     let mut register = register(2);
-    begins_and_reads(&mut register, 0, 0, 0);
+    begins_and_reads(&mut register, 0, 0, None);
     commits(&mut register, 1, &[(0, 5)]);
     commits(&mut register, 1, &[(1, 6)]);
     assert_eq!(register.read(0, 1), Ok(Err(Abort::Torn)));
@@ -130,10 +130,10 @@ fn k9_past_through_a_handler() {
 #[test]
 fn k10_blind_write() {
     let mut register = register(3);
-    begins_and_reads(&mut register, 0, 0, 0);
+    begins_and_reads(&mut register, 0, 0, None);
     commits(&mut register, 1, &[(0, 5)]);
     commits(&mut register, 2, &[(1, 6)]);
-    assert_eq!(register.read(0, 1), Ok(Ok(6)));
+    assert_eq!(register.read(0, 1), Ok(Ok(Some(6))));
     assert_eq!(register.try_commit(0), Ok(Err(Abort::Overtaken)));
 }
 
@@ -141,7 +141,7 @@ fn k10_blind_write() {
 fn k11_commit_order() {
     let mut register = register(3);
     commits(&mut register, 1, &[(1, 3)]);
-    begins_and_reads(&mut register, 0, 1, 3);
+    begins_and_reads(&mut register, 0, 1, Some(3));
     commits(&mut register, 2, &[(0, 4), (1, 8)]);
     assert_eq!(register.read(0, 0), Ok(Err(Abort::Torn)));
 }
@@ -169,7 +169,7 @@ fn k12_the_last_number() {
 fn k12_a_stale_read_goes_first() {
     let mut words = with_number(65_535);
     let mut register = Register::resume(&mut words);
-    begins_and_reads(&mut register, 0, 1, 0);
+    begins_and_reads(&mut register, 0, 1, None);
     assert_eq!(register.write(0, 0, 6), Ok(()));
     commits(&mut register, 1, &[(1, 3)]);
     assert_eq!(register.try_commit(0), Ok(Err(Abort::Overtaken)));
@@ -188,7 +188,7 @@ fn k14_give_up() {
     commits(&mut register, 0, &[(1, 3)]);
     commits(&mut register, 1, &[(0, 5)]);
     let before = register.words().to_vec();
-    begins_and_reads(&mut register, 0, 0, 5);
+    begins_and_reads(&mut register, 0, 0, Some(5));
     assert_eq!(register.write(0, 1, 7), Ok(()));
     assert_eq!(register.take(0, Step::GiveUp), Reply::Aborted(Abort::GaveUp));
     assert_eq!(register.words(), before);
@@ -199,10 +199,26 @@ fn k14_give_up() {
 }
 
 #[test]
+fn a_cell_written_as_0_is_no_unset_one() {
+    let mut register = register(2);
+    begins_and_reads(&mut register, 0, 0, None);
+    commits(&mut register, 1, &[(0, 0)]);
+    assert_eq!(register.take(0, Step::Read(0)), Reply::Unset);
+    assert_eq!(register.try_commit(0), Ok(Err(Abort::Overtaken)));
+    begins_and_reads(&mut register, 0, 0, Some(0));
+    assert_eq!(register.read(0, 0), Ok(Ok(Some(0))));
+    assert_eq!(register.read(0, 1), Ok(Ok(None)));
+    assert_eq!(register.write(0, 1, 0), Ok(()));
+    assert_eq!(register.read(0, 1), Ok(Ok(Some(0))));
+    assert_eq!(register.give_up(0), Ok(()));
+    begins_and_reads(&mut register, 0, 1, None);
+}
+
+#[test]
 fn words_behind_a_register_stay() {
     let mut words = [7; 40];
     let mut register = Register::open(&mut words, 2, 2).expect("40 words are enough");
-    begins_and_reads(&mut register, 0, 0, 0);
+    begins_and_reads(&mut register, 0, 0, None);
     commits(&mut register, 1, &[(0, u32::MAX), (1, u32::MAX)]);
     assert_eq!(register.read(0, 1), Ok(Err(Abort::Torn)));
     assert_eq!(words[needed(2, 2).expect("in range")..], [7; 14]);

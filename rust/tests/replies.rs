@@ -45,8 +45,9 @@ fn kinds_are_the_documents() {
     let words = rows("Kinds of reply").into_iter().map(|(kind, entries)| (kind, entries[0].clone()));
     let first = |words: String| words.split([':', ' ']).next().unwrap_or_default().to_owned();
     let documented: Vec<(u32, String)> = words.map(|(kind, words)| (kind, first(words))).collect();
-    let replies = [Reply::Done, Reply::Value(7), Reply::Committed, Reply::Aborted(Abort::Torn), Reply::Refused(Refusal::NoCell)];
-    assert_eq!(documented, replies.map(|reply| (reply.kind(), first(reply.to_string()))));
+    let ended = [Reply::Committed, Reply::Aborted(Abort::Torn), Reply::Refused(Refusal::NoCell)];
+    let replies = [[Reply::Done, Reply::Value(7)].as_slice(), &ended, &[Reply::Unset]].concat();
+    assert_eq!(documented, replies.iter().map(|reply| (reply.kind(), first(reply.to_string()))).collect::<Vec<_>>());
 }
 
 /// A row of the table of texts: its kind, its detail and its text.
@@ -58,7 +59,8 @@ fn worded(reply: Reply) -> (u32, Vec<String>) {
 #[test]
 fn texts_are_the_documents() {
     let others = [Reply::Done, Reply::Value(7), Reply::Committed];
-    let replies = others.into_iter().chain(Abort::ALL.map(Reply::Aborted)).chain(Refusal::ALL.map(Reply::Refused));
+    let replies =
+        others.into_iter().chain(Abort::ALL.map(Reply::Aborted)).chain(Refusal::ALL.map(Reply::Refused)).chain([Reply::Unset]);
     let (said, documented) = (replies.map(worded).collect::<Vec<_>>(), rows("In words"));
     assert_eq!(said.len(), documented.len());
     for (text, row) in said.into_iter().zip(documented) {
@@ -71,7 +73,7 @@ fn every_reply_leads_to_its_numbers_and_back() {
     let values = [0, 1, 65_535, u32::MAX].map(Reply::Value);
     let aborts = Abort::ALL.map(Reply::Aborted);
     let refusals = Refusal::ALL.map(Reply::Refused);
-    let others = [Reply::Done, Reply::Committed];
+    let others = [Reply::Done, Reply::Committed, Reply::Unset];
     for reply in others.into_iter().chain(values).chain(aborts).chain(refusals) {
         assert_eq!(Reply::from_numbers(reply.kind(), reply.detail()), Some(reply));
     }
@@ -83,7 +85,8 @@ fn numbers_that_stand_for_nothing_give_nothing() {
         assert_eq!(Abort::from_number(number).map_or(number, Abort::number), number);
         assert_eq!(Abort::from_number(number).is_some(), [1, 2, 3, 5].contains(&number));
         assert_eq!(Refusal::from_number(number).map_or(number, Refusal::number), number);
-        assert_eq!(Reply::from_numbers(5, number), None);
+        assert_eq!(Reply::from_numbers(5, number).is_some(), number == 0);
+        assert_eq!(Reply::from_numbers(6, number), None);
         assert_eq!(Reply::from_numbers(0, number).is_some(), number == 0);
         assert_eq!(Reply::from_numbers(2, number).is_some(), number == 0);
         assert_eq!(Reply::from_numbers(3, number).is_some(), Abort::from_number(number).is_some());

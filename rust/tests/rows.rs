@@ -41,7 +41,7 @@ fn the_listing_in_one_call() {
     let mut register = register();
     let reports = register.row(&Row::from(LISTING)).expect("a register");
     let expected =
-        [Reply::Done, Reply::Value(0), Reply::Done, Reply::Done, Reply::Done, Reply::Committed, Reply::Aborted(Abort::Torn)];
+        [Reply::Done, Reply::Unset, Reply::Done, Reply::Done, Reply::Done, Reply::Committed, Reply::Aborted(Abort::Torn)];
     assert_eq!(replies(&reports), expected);
     assert!(reports.iter().zip(LISTING).all(|(report, (handler, step))| (report.handler, report.code) == (handler, step.code())));
     assert_eq!(register.words()[2..8], [5, 1, 1, 7, 1, 1]);

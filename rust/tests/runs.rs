@@ -69,7 +69,7 @@ fn a_byte_more_than_the_longest_file_is_refused() {
         file
     };
     let text = run(&longest(65_535));
-    assert!(text.ends_with(b"\n65524 0 - refused 32\ncell 0 value 0 number 0\n"));
+    assert!(text.ends_with(b"\n65524 0 - refused 32\ncell 0 unset number 0\n"));
     assert!(text.len() <= MOST_PRINTED);
     assert_eq!(judge(&longest(65_535)), text);
     assert_eq!(run(&longest(65_536)), b"refused 30\n");

@@ -40,7 +40,7 @@ fn the_last_abort_is_given_when_the_attempts_are_used_up() {
 #[test]
 fn a_torn_read_starts_over() {
     let (shared, mut count) = (shared(2), 0);
-    let result = shared.transact(0, 2, |transaction| -> Result<(u32, u32), Stopped> {
+    let result = shared.transact(0, 2, |transaction| -> Result<(Option<u32>, Option<u32>), Stopped> {
         count += 1;
         let first = transaction.read(0)?;
         if count == 1 {
@@ -48,7 +48,7 @@ fn a_torn_read_starts_over() {
         }
         Ok((first, transaction.read(1)?))
     });
-    assert_eq!((result, count), (Ok((9, 9)), 2));
+    assert_eq!((result, count), (Ok((Some(9), Some(9))), 2));
 }
 
 #[test]
@@ -61,7 +61,7 @@ fn an_abort_counts_whatever_the_closure_makes_of_it() {
         seen.push(transaction.read(1));
         // No step is taken any more: the register would refuse these with 14.
         seen.push(transaction.read(0));
-        seen.push(transaction.write(0, 7).map(|()| 0));
+        seen.push(transaction.write(0, 7).map(|()| None));
         Ok(())
     });
     assert_eq!(result, Err(NotCommitted::Aborted(Abort::Torn)));
@@ -116,7 +116,7 @@ fn given_up_after_a_read_that_is_overtaken_it_is_not_started_over() {
         other_commits(&shared, 9);
         found.map_or(Ok(()), Err)
     });
-    assert_eq!((result, count), (Err(NotCommitted::GaveUp(0)), 1));
+    assert_eq!((result, count), (Err(NotCommitted::GaveUp(None)), 1));
     assert_eq!((values(&shared), shared.take(0, Step::Begin)), ([9, 9], Reply::Done));
 }
 
@@ -175,7 +175,7 @@ fn a_panic_gives_up_and_leaves_the_register_usable() {
     assert!(panicked.is_err());
     is_as_before(&shared, &before);
     other_commits(&shared, 9);
-    assert_eq!(shared.transact(0, 1, |transaction| transaction.read(0)), Ok(9));
+    assert_eq!(shared.transact(0, 1, |transaction| transaction.read(0)), Ok(Some(9)));
 }
 
 #[test]
@@ -209,7 +209,7 @@ fn a_panic_without_sharing_gives_up_too() {
 
 /// Moves one from the first cell to the second. Whatever is read, also in attempts that come to nothing, adds up.
 fn moves(transaction: &mut Transaction<'_>) -> Result<(), Stopped> {
-    let (first, second) = (transaction.read(0)?, transaction.read(1)?);
+    let (first, second) = (transaction.read(0)?.unwrap_or(0), transaction.read(1)?.unwrap_or(0));
     assert_eq!(first + second, 4_000);
     std::thread::yield_now();
     transaction.write(0, first - 1)?;

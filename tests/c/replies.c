@@ -42,10 +42,10 @@ static void play(const char *what, const struct line *lines, size_t count) {
 
 // The published listing, K7, in numbers; then the same in the header's names.
 static void listing(void) {
-    static const struct line numbers[] = {{0, 0, 0, 0, 0},  {0, 32, 0, 1, 0}, {1, 0, 0, 0, 0}, {1, 64, 5, 0, 0},
+    static const struct line numbers[] = {{0, 0, 0, 0, 0},  {0, 32, 0, 5, 0}, {1, 0, 0, 0, 0}, {1, 64, 5, 0, 0},
                                           {1, 65, 7, 0, 0}, {1, 1, 0, 2, 0},  {0, 33, 0, 3, 1}};
     const struct line names[] = {{0, ZIDLEMOWO_BEGIN, 0, ZIDLEMOWO_OK, 0},
-                                 {0, zidlemowo_read_code(0), 0, ZIDLEMOWO_VALUE, 0},
+                                 {0, zidlemowo_read_code(0), 0, ZIDLEMOWO_UNSET, 0},
                                  {1, ZIDLEMOWO_BEGIN, 0, ZIDLEMOWO_OK, 0},
                                  {1, zidlemowo_write_code(0), 5, ZIDLEMOWO_OK, 0},
                                  {1, zidlemowo_write_code(1), 7, ZIDLEMOWO_OK, 0},
@@ -59,7 +59,7 @@ static void listing(void) {
 
 // K6 and K12: a try is overtaken by another's commit; a written cell's number goes to 65,535 and no further.
 static void tries(void) {
-    const struct line overtaken[] = {{0, 0, 0, 0, 0}, {0, 32, 0, 1, 0}, {1, 0, 0, 0, 0}, {1, 64, 5, 0, 0}, {1, 1, 0, 2, 0},
+    const struct line overtaken[] = {{0, 0, 0, 0, 0}, {0, 32, 0, 5, 0}, {1, 0, 0, 0, 0}, {1, 64, 5, 0, 0}, {1, 1, 0, 2, 0},
                                      {0, 1, 0, ZIDLEMOWO_ABORT, ZIDLEMOWO_OVERTAKEN}};
     const struct line spent[] = {{0, 0, 0, 0, 0}, {0, 64, UINT32_MAX, 0, 0}, {0, 1, 0, 2, 0}, {0, 0, 0, 0, 0}, {0, 64, 1, 0, 0},
                                  {0, 1, 0, ZIDLEMOWO_ABORT, ZIDLEMOWO_SPENT}, {0, 0, 0, 0, 0}, {0, 32, 0, 1, UINT32_MAX}};
@@ -68,6 +68,29 @@ static void tries(void) {
     fresh(ZIDLEMOWO_MOST_NUMBER - 1);
     PLAY("spent", spent);
     demand("the number of cell 0", words[OWN_NUMBER], 65535);
+}
+
+// A cell written as 0 is a value, and one never written is unset: in first and later reads, and unset by the number alone, whatever the
+// cell holds.
+static void unset_cells(void) {
+    const struct line calm[] = {{0, 0, 0, 0, 0},
+                                {0, 64, 0, 0, 0},
+                                {0, 32, 0, ZIDLEMOWO_VALUE, 0}, // its own write
+                                {0, 33, 0, ZIDLEMOWO_UNSET, 0},
+                                {0, 33, 0, ZIDLEMOWO_UNSET, 0},
+                                {0, 1, 0, ZIDLEMOWO_COMMIT, 0},
+                                {1, 0, 0, 0, 0},
+                                {1, 32, 0, ZIDLEMOWO_VALUE, 0},
+                                {1, 32, 0, ZIDLEMOWO_VALUE, 0},
+                                {1, 33, 0, ZIDLEMOWO_UNSET, 0},
+                                {1, 65, 0, 0, 0},
+                                {1, 33, 0, ZIDLEMOWO_VALUE, 0}};
+    const struct line held[] = {{0, 0, 0, 0, 0}, {0, 32, 0, 5, 0}, {0, 32, 0, 5, 0}, {0, 64, 7, 0, 0}, {0, 32, 0, 1, 7}};
+    fresh(0);
+    PLAY("a cell written as 0", calm);
+    fresh(0);
+    words[OWN_NUMBER - 1] = 9;
+    PLAY("a value with number 0", held);
 }
 
 // K14, in numbers and then in the header's names: a give up keeps nothing, and while idle it is refused.
@@ -106,6 +129,7 @@ static void codes(void) {
 int main(void) {
     listing();
     tries();
+    unset_cells();
     give_ups();
     codes();
     printf("replies: every step code, kind and reason as documented\n");

@@ -211,7 +211,7 @@ static void as_one_by_one(struct size size, size_t count, size_t cut, size_t pla
 // The published listing, K7, as a row, in the header's names.
 static void listing(void) {
     static const uint32_t steps[] = {0, 0, 0, 0, 32, 0, 1, 0, 0, 1, 64, 5, 1, 65, 7, 1, 1, 0, 0, 33, 0};
-    static const uint32_t replies[] = {ZIDLEMOWO_OK, ZIDLEMOWO_VALUE, ZIDLEMOWO_OK, ZIDLEMOWO_OK, ZIDLEMOWO_OK, ZIDLEMOWO_COMMIT, ZIDLEMOWO_ABORT};
+    static const uint32_t replies[] = {ZIDLEMOWO_OK, ZIDLEMOWO_UNSET, ZIDLEMOWO_OK, ZIDLEMOWO_OK, ZIDLEMOWO_OK, ZIDLEMOWO_COMMIT, ZIDLEMOWO_ABORT};
     uint32_t words[ZIDLEMOWO_WORDS(2, 2)], reports[COUNT(replies) * ZIDLEMOWO_REPORT_WORDS];
     demand("an opening", zidlemowo_open(words, COUNT(words), 2, 2), 0);
     demand("the listing", zidlemowo_row(words, COUNT(words), steps, COUNT(steps), reports, COUNT(reports), 0), 0);

@@ -46,7 +46,7 @@ cells-agree {m} beside c inside =
     let told = words-told (beside .run) c in
     let commits = beside .says .same .commits in
     rw (tested _ .1 (beside .says .ledger), beside .says .cells, lt-ltb c m inside)
-    (rw (told .value, told .number, replay-same commits everyCommit, versionCount-same commits c))
+    (rw (told .shows, told .number, replay-same commits everyCommit, versionCount-same commits c))
 
 module _ {m n : ℕ} {ledger : List ℕ} (says : Says m n ledger noHistory) where
   -- An opened ledger stands beside every opened register,

@@ -5,8 +5,8 @@ use mathlib.Core.List.{List}
 use lib.ListN.{length}
 use Rattle.rules.specs.steps.Tables.{if_then_else_}
 use Rattle.rules.specs.steps.Codes.{Step, begin, try, giveUp, read, write, known, plainSheet}
-use Rattle.rules.specs.steps.Replies.{Outcome, ok, value, committed, aborted, Reply}
-use Rattle.rules.specs.history.History.{History, note, noteOk, noteValue, noteCommit, noteAbort, doing, ended, noteReply}
+use Rattle.rules.specs.steps.Replies.{Outcome, ok, shows, committed, aborted, Reply}
+use Rattle.rules.specs.history.History.{History, note, noteOk, noteShown, noteCommit, noteAbort, doing, ended, noteReply}
 use Rattle.rules.proofs.history.Alike.{length-same}
 use Rattle.rules.proofs.demand.ThirdDemand.{note-refused}
 use Rattle.layout.specs.Places.{cellsOf}
@@ -24,17 +24,17 @@ counted commits reply = if reportsCommit reply then (suc commits) else commits
 -- A history with an outcome noted has one commit more where it is a commit.
 note-counts : (h : History ℕ) (i : ℕ) (s : Step) (v : ℕ) (outcome : Outcome ℕ)
     → length (note h i s v outcome .commits) ≡ (if isCommit outcome then (suc (length (h .commits))) else (length (h .commits)))
-unfolding note noteOk noteValue noteCommit noteAbort doing ended
+unfolding note noteOk noteShown noteCommit noteAbort doing ended
 note-counts h i begin v ok = refl
 note-counts h i (write x) v ok = refl
 note-counts h i (read x) v ok = refl
 note-counts h i try v ok = refl
 note-counts h i giveUp v ok = refl
-note-counts h i begin v (value w) = refl
-note-counts h i (write x) v (value w) = refl
-note-counts h i (read x) v (value w) = refl
-note-counts h i try v (value w) = refl
-note-counts h i giveUp v (value w) = refl
+note-counts h i begin v (shows content) = refl
+note-counts h i (write x) v (shows content) = refl
+note-counts h i (read x) v (shows content) = refl
+note-counts h i try v (shows content) = refl
+note-counts h i giveUp v (shows content) = refl
 note-counts h i s v committed = refl
 note-counts h i s v (aborted reason) = refl
 

@@ -1,5 +1,5 @@
 // What the judge asks of its words: the writer of a cell's present version, whether a first read is torn, whether a version read is
-// stale, and the values and versions of the cells. All of it is told by the commits and the deeds that the words say.
+// stale, and what cells and copies show. All of it is told by the commits and the deeds that the words say.
 // Internal: called by our crates alone, which show what each function requires.
 ghost use mathlib.Core.Path.{_≡_};
 ghost use mathlib.Core.Bool.{_&&_, _||_};
@@ -10,12 +10,13 @@ ghost use Rattle.rules.specs.steps.Tables.{someBelow};
 ghost use Rattle.rules.specs.history.History.{hasRead, hasWritten, writer, everyCommit};
 ghost use Rattle.rules.specs.history.Past as Past;
 ghost use Rattle.rules.specs.history.Replay.{replay};
-ghost use Rattle.rules.specs.demand.Judge.{versionCount, stale};
+ghost use Rattle.rules.specs.demand.Judge.{versionCount, copied, stale};
+ghost use Rattle.replies.specs.Meaning.{contentIs};
 ghost use Rattle.limits.specs.Limits.{mostCells, ledgerRows};
-ghost use Rattle.layout.specs.View.{wordSetting};
 ghost use Rattle.ledger.specs.Entries.{ledgerLong, mostCommits, commitRow, entryIn};
 ghost use Rattle.ledger.specs.Histories.{deedsOf, commitsIn};
 ghost use Rattle.past.specs.Marks.{marked};
+use replies::Content;
 
 // A version of a cell: the place of the commit that wrote it, 0 for the opening's, and its number among the cell's versions.
 pub struct Version {
@@ -91,17 +92,33 @@ pub fn writer_of(words: &[u32], x: usize, count: usize) -> usize
     version.writer
 }
 
-// The value of the cell's present version.
-pub fn present_value(words: &[u32], x: usize, count: usize) -> u32
+// What the cell's present version shows.
+pub fn present_content(words: &[u32], x: usize, count: usize) -> Content
     requires { ⌜ (ledgerLong ≤ length (now words)) × (x < mostCells) × (count ≤ mostCommits) ⌝ }
-    ensures { λ r. ⌜ ((m : ℕ) → x < m → r ≡ replay (wordSetting m) (commitsIn m (now (words .entry)) count) everyCommit x) ⌝ }
+    ensures { λ r. ⌜ ((m : ℕ) → x < m → contentIs r ≡ replay (commitsIn m (now (words .entry)) count) everyCommit x) ⌝ }
 {
     let place = writer_of(words, x, count);
     if place == 0 {
-        return 0;
+        return Content::Unset;
     }
     let at = places::copy_at(places::commit_row(place), x);
-    words[at]
+    Content::Value(words[at])
+}
+
+// What the copy shows that a row's transaction has of the cell x: what it wrote, or else the version that it read, if any.
+pub fn copy_content(words: &[u32], row: usize, x: usize) -> Content
+    requires { ⌜ (ledgerLong ≤ length (now words)) × (row < ledgerRows) × (x < mostCells) ⌝ }
+    ensures { λ r. ⌜ ((m : ℕ) → x < m → contentIs r ≡ copied (deedsOf (entryIn (now (words .entry)) row) m) x) ⌝ }
+{
+    let at = places::copy_at(row, x);
+    if wrote(words, row, x) {
+        return Content::Value(words[at]);
+    }
+    // A source is noted as 1 more than its place, so that 1 is the opening.
+    if source_noted(words, row, x) <= 1 {
+        return Content::Unset;
+    }
+    Content::Value(words[at])
 }
 
 // Whether the commit at a place is marked, and wrote a later version of the cell y than the source did.

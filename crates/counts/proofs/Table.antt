@@ -35,10 +35,15 @@ write-done : taken 64 Rules.ok ≡ 0 ∷ 0 ∷ 0 ∷ 0 ∷ 0 ∷ 0 ∷ []
 unfolding added taken raised raisedBy isIn plainSheet
 write-done = refl
 
--- and so does a read that gives a value.
-read-value : taken 32 (Rules.value 7) ≡ 0 ∷ 0 ∷ 0 ∷ 0 ∷ 0 ∷ 0 ∷ []
+-- and so does a read, whether it gives a value
+read-value : taken 32 (Rules.shows (Rules.value 7)) ≡ 0 ∷ 0 ∷ 0 ∷ 0 ∷ 0 ∷ 0 ∷ []
 unfolding added taken raised raisedBy isIn
 read-value = refl
+
+-- or finds the cell unset.
+read-unset : taken 32 (Rules.shows Rules.unset) ≡ 0 ∷ 0 ∷ 0 ∷ 0 ∷ 0 ∷ 0 ∷ []
+unfolding added taken raised raisedBy isIn
+read-unset = refl
 
 -- A commit adds to committed.
 try-committed : taken 1 Rules.committed ≡ 0 ∷ 1 ∷ 0 ∷ 0 ∷ 0 ∷ 0 ∷ []

@@ -8,7 +8,7 @@ use Rattle.rules.specs.steps.Tables.{if_then_else_}
 use Rattle.rules.specs.steps.Codes.{Kind, plainSheet}
 use Rattle.rules.specs.steps.Checks.{isBegin}
 use Rattle.rules.specs.steps.Replies as Rules
-use Rattle.rules.specs.steps.Replies.{Outcome, ok, value, aborted, Reply, reported}
+use Rattle.rules.specs.steps.Replies.{Outcome, ok, shows, aborted, Reply, reported}
 
 -- The counts of a handler.
 pub data Count : Type 0 where
@@ -26,7 +26,7 @@ column gaveUp = 5
 -- THE TABLE: the count that a step of some kind raises by what it came to, if it raises one.
 unfoldable pub raisedBy : Kind → Outcome ℕ → Option Count
 raisedBy kind ok = if isBegin kind then (some begun) else none
-raisedBy kind (value v) = none
+raisedBy kind (shows content) = none
 raisedBy kind Rules.committed = some committed
 raisedBy kind (aborted Rules.torn) = some torn
 raisedBy kind (aborted Rules.overtaken) = some overtaken

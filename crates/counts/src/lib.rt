@@ -44,7 +44,7 @@ fn outcome_column(kind: Kind, outcome: Outcome) -> usize
 {
     match outcome {
         Outcome::Done => done_column(kind),
-        Outcome::Value(_) => NO_COLUMN,
+        Outcome::Shows(_) => NO_COLUMN,
         Outcome::Committed => 1,
         Outcome::Aborted(reason) => match reason {
             Reason::Torn => 2,

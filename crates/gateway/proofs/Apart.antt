@@ -4,8 +4,8 @@ use Prim.Native.Nat.{ℕ, _^_, _≤_, _<_}
 use native.Mathlib.Omega.{arith}
 use mathlib.Core.Path.{_≡_, refl, sym, ap}
 use mathlib.Core.Option.{none, some}
-use Rattle.rules.specs.steps.Replies.{torn, overtaken, spent, gaveUp, Outcome, ok, value, committed, aborted, Refusal, Reply, reported, Opening}
-use Rattle.rules.specs.steps.Replies.{ready, notWellFormed, noHandler, noCell, alreadyOpen, notOpen, unknownStep, outOfRange, tooShort}
+use Rattle.rules.specs.steps.Replies.{torn, overtaken, spent, gaveUp, unset, value, Outcome, ok, shows, committed, aborted, Refusal, Reply, reported}
+use Rattle.rules.specs.steps.Replies.{Opening, ready, notWellFormed, noHandler, noCell, alreadyOpen, notOpen, unknownStep, outOfRange, tooShort}
 use Rattle.rules.specs.steps.Replies.{badFile, usedUp, tooManyCommits, sheetFull, noRoom}
 use Rattle.rules.specs.steps.Replies.{Numbers, refusalNumber, outcomeNumbers, refusalNumbers, replyNumbers}
 use Rattle.rules.specs.demand.Demand.{reportedTo}
@@ -26,13 +26,14 @@ packed-apart a b small other e =
     let details : a .detail ≡ b .detail = omega (arith, small, other, e) in
     λ t. record { kind = kinds t; detail = details t }
 
--- No kind is more than a refusal's.
-pub kind-small : (reply : Reply ℕ) → replyNumbers reply .kind ≤ 4
+-- No kind is more than that of what is unset.
+pub kind-small : (reply : Reply ℕ) → replyNumbers reply .kind ≤ 5
 kind-small (reported report) = small (report .outcome)
   where
-    small : (outcome : Outcome ℕ) → outcomeNumbers outcome .kind ≤ 4
+    small : (outcome : Outcome ℕ) → outcomeNumbers outcome .kind ≤ 5
     small ok = omega arith
-    small (value v) = omega arith
+    small (shows unset) = omega arith
+    small (shows (value v)) = omega arith
     small committed = omega arith
     small (aborted reason) = omega arith
 kind-small (Reply.refused refusal) = omega arith
@@ -42,7 +43,8 @@ kind-small (Reply.refused refusal) = omega arith
 -- A value that fits a word.
 abbrev Fits : Outcome ℕ → Type 0
 Fits ok = Unit {0}
-Fits (value v) = v < 2 ^ 32
+Fits (shows unset) = Unit {0}
+Fits (shows (value v)) = v < 2 ^ 32
 Fits committed = Unit {0}
 Fits (aborted reason) = Unit {0}
 
@@ -54,7 +56,8 @@ pub data AnswerTo (handler code : ℕ) : Reply ℕ → Type 0 where
 -- The detail of an outcome fits a word,
 outcome-small : (outcome : Outcome ℕ) → Fits outcome → outcomeNumbers outcome .detail < 2 ^ 32
 outcome-small ok fits = omega arith
-outcome-small (value v) fits = fits
+outcome-small (shows unset) fits = omega arith
+outcome-small (shows (value v)) fits = fits
 outcome-small committed fits = omega arith
 outcome-small (aborted torn) fits = omega arith
 outcome-small (aborted overtaken) fits = omega arith

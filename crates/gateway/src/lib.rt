@@ -33,7 +33,7 @@ pub extern "C" fn zidlemowo_open(words: &mut [u32], m: u32, n: u32) -> u32
 
 // A kind and a detail in one number.
 fn pack(kind: u32, detail: u32) -> u64
-    requires { ⌜ kind ≤ 4 ⌝ }
+    requires { ⌜ kind ≤ 5 ⌝ }
     ensures { λ r. ⌜ r ≡ kind * 2 ^ 32 + detail ⌝ }
 {
     (kind as u64) * 4294967296 + (detail as u64)

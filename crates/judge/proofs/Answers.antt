@@ -1,14 +1,12 @@
 -- The answer to a read and to a try, by what is asked of the handler's row and of the commits; and what is then to be noted.
-use Prim.Native.Nat.{ℕ, _+_, _*_, _<_}
+use Prim.Native.Nat.{ℕ, _<_}
 use native.Mathlib.Omega.{arith}
 use mathlib.Core.Path.{_≡_, sym, ap, ap₂, _∙_}
 use mathlib.Core.Bool.{Bool, true, false, _||_}
 use mathlib.Core.List.{List}
-use lib.ListN.{getD}
-use borrow.Author.Tests.{lt-ltb}
 use Rattle.rules.specs.steps.Tables.{if_then_else_, someBelow}
 use Rattle.rules.specs.steps.Codes.{Step, try, read}
-use Rattle.rules.specs.steps.Replies.{torn, overtaken, value, committed, aborted}
+use Rattle.rules.specs.steps.Replies.{torn, overtaken, Content, shows, committed, aborted}
 use Rattle.rules.specs.steps.Register.{Setting}
 use Rattle.rules.specs.steps.Checks.{firstHit}
 use Rattle.rules.specs.history.History.{Deed, Commit, hasRead, hasWritten, writer, everyCommit}
@@ -18,12 +16,10 @@ use Rattle.rules.specs.demand.Judge.{copied, stale, orAborted, answerRead, answ
 use Rattle.rules.proofs.demand.NeverSpent.{short-try}
 use Rattle.layout.specs.Places.{cellsOf, handlersOf}
 use Rattle.layout.specs.View.{wordSetting}
-use Rattle.layout.specs.Places.{copyAt}
 use Rattle.ledger.specs.Entries.{Ledger, Entry, entryIn, withEntry, commitsNoted, mostCommits, handlerRow}
 use Rattle.ledger.specs.Histories.{deedsOf, commitsIn, historyIn}
-use Rattle.ledger.specs.Noting.{emptyEntry, readEntry, noteRead, noteOutcome, noteCommitRow}
+use Rattle.ledger.specs.Noting.{emptyEntry, readEntry, contentWord, noteRead, noteOutcome, noteCommitRow}
 use Rattle.ledger.specs.Promises.{isCommit}
-use Rattle.ledger.proofs.Deeds.{hasSource, copies-at, reads-at, written-at}
 use Rattle.ledger.proofs.Commits.{commits-count}
 use Rattle.ledger.proofs.Faithful.{now-is}
 use Rattle.judge.specs.Taking.{answerOf, JudgeReady, HasRoom, TakesNoted}
@@ -76,17 +72,10 @@ module _ {words : List ℕ} {m i x : ℕ} (ready : JudgeReady words m i (read x)
   abbrev entry : Entry
   entry = entryIn words (handlerRow i)
 
-  -- A cell that was read or written is answered with its copy,
-  answer-again : touched words i x ≡ true → answerOf words i (read x) ≡ value (entry .copies x)
+  -- A cell that was read or written is answered with what its copy shows,
+  answer-again : touched words i x ≡ true → answerOf words i (read x) ≡ shows (copied (deeds words i) x)
   unfolding answerRead
-  answer-again t = read-asked (ready .ledger) (ready .handler) x ∙ rw t (ap value copy)
-    where
-      noted : hasSource (entry .sources x) || entry .written x ≡ true
-      noted =
-          sym (ap₂ _||_ (reads-at entry (cellsOf words) x (ready .cell)) (written-at entry (cellsOf words) x (ready .cell))) ∙ t
-
-      copy : copied (S words) (deeds words i) x ≡ entry .copies x
-      copy = copies-at entry (S words) (cellsOf words) x ∙ rw (lt-ltb x (cellsOf words) (ready .cell), noted)
+  answer-again t = read-asked (ready .ledger) (ready .handler) x ∙ rw t
 
   module _ (first : touched words i x ≡ false) where
     -- a first read of another with abort 1 where it is torn,
@@ -94,8 +83,8 @@ module _ {words : List ℕ} {m i x : ℕ} (ready : JudgeReady words m i (read x)
     unfolding answerRead firstHit orAborted
     answer-torn t = read-asked (ready .ledger) (ready .handler) x ∙ rw (first, t)
 
-    -- and else with the value of the present version.
-    answer-first : isTorn words i x ≡ false → answerOf words i (read x) ≡ value (replay (S words) (commits words) everyCommit x)
+    -- and else with what the present version shows.
+    answer-first : isTorn words i x ≡ false → answerOf words i (read x) ≡ shows (replay (commits words) everyCommit x)
     unfolding answerRead firstHit orAborted
     answer-first t = read-asked (ready .ledger) (ready .handler) x ∙ rw (first, t)
 
@@ -105,12 +94,12 @@ module _ {words : List ℕ} {m i x : ℕ} (ready : JudgeReady words m i (read x)
 
   -- ── What is taken ───────────────────────────────────────────────────
 
-  -- A read that is answered with the copy leaves the words,
-  pub takes-again : {at : ℕ} → at ≡ copyAt (handlerRow i) x → touched words i x ≡ true → (v : ℕ)
-      → TakesNoted words i (read x) v (value (getD words at 0)) words
-  unfolding noteOutcome noteRead entryIn
-  takes-again placed t v = record {
-    replied = ap (λ (at : ℕ). value (getD words at 0)) placed ∙ sym (answer-again t);
+  -- A read that is answered with what the copy shows leaves the words,
+  pub takes-again : {row : ℕ} {content : Content ℕ} → row ≡ handlerRow i → content ≡ copied (deedsOf (entryIn words row) (cellsOf words)) x
+      → touched words i x ≡ true → (v : ℕ) → TakesNoted words i (read x) v (shows content) words
+  unfolding noteOutcome noteRead
+  takes-again there found t v = record {
+    replied = ap shows (found ∙ ap (λ (k : ℕ). copied (deedsOf (entryIn words k) (cellsOf words)) x) there) ∙ sym (answer-again t);
     left = rw (answer-again t, touched-is ∙ t);
   }
 
@@ -124,21 +113,22 @@ module _ {words : List ℕ} {m i x : ℕ} (ready : JudgeReady words m i (read x)
   }
 
   -- A first read of a cell not written is noted with the commit that wrote what it found.
-  first-noted : touched words i x ≡ false → (found : ℕ)
-      → noteRead words i x found ≡ withEntry words (handlerRow i) (readEntry entry x (writer (commits words) x) found)
+  first-noted : touched words i x ≡ false → (found : Content ℕ)
+      → noteRead words i x found ≡ withEntry words (handlerRow i) (readEntry entry x (writer (commits words) x) (contentWord found))
   unfolding noteRead historyIn
   first-noted first found = rw (touched-is ∙ first)
 
   -- and another is noted.
-  pub takes-first : touched words i x ≡ false → isTorn words i x ≡ false → (v place found : ℕ) {after : List ℕ}
-      → place ≡ writer (commits words) x → found ≡ replay (S words) (commits words) everyCommit x
-      → {row : ℕ} → row ≡ handlerRow i → after ≡ withEntry words row (readEntry (entryIn words row) x place found)
-      → TakesNoted words i (read x) v (value found) after
+  pub takes-first : touched words i x ≡ false → isTorn words i x ≡ false → (v place word : ℕ) (found : Content ℕ) {after : List ℕ}
+      → place ≡ writer (commits words) x → found ≡ replay (commits words) everyCommit x → word ≡ contentWord found
+      → {row : ℕ} → row ≡ handlerRow i → after ≡ withEntry words row (readEntry (entryIn words row) x place word)
+      → TakesNoted words i (read x) v (shows found) after
   unfolding noteOutcome
-  takes-first first t v place found wrote holds there left = record {
-    replied = ap value holds ∙ sym (answer-first first t);
-    left = in-row words i (λ e. readEntry e x place found) there left ∙ ap₂ (λ (source value : ℕ). withEntry words (handlerRow i) (readEntry entry x source value)) wrote holds
-        ∙ sym (first-noted first (replay (S words) (commits words) everyCommit x)) ∙ rw (answer-first first t);
+  takes-first first t v place word found wrote holds noted there left = record {
+    replied = ap shows holds ∙ sym (answer-first first t);
+    left = in-row words i (λ e. readEntry e x place word) there left
+        ∙ ap₂ (λ (source v : ℕ). withEntry words (handlerRow i) (readEntry entry x source v)) wrote (noted ∙ ap contentWord holds)
+        ∙ sym (first-noted first (replay (commits words) everyCommit x)) ∙ rw (answer-first first t);
   }
 
 module _ {words : List ℕ} {m i : ℕ} (ready : JudgeReady words m i try) where

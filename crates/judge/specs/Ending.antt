@@ -10,7 +10,6 @@ use Rattle.rules.specs.history.History.{everyCommit}
 use Rattle.rules.specs.history.Replay.{replay}
 use Rattle.rules.specs.demand.Judge.{versionCount}
 use Rattle.layout.specs.Places.{cellsOf}
-use Rattle.layout.specs.View.{wordSetting}
 use Rattle.replies.specs.Ends.{CellLine, EndCall}
 use Rattle.ledger.specs.Entries.{isLedger}
 use Rattle.ledger.specs.Histories.{historyIn}
@@ -19,7 +18,7 @@ use Rattle.ledger.specs.Histories.{historyIn}
 unfoldable pub judgedEnd : List ℕ → ℕ → Option CellLine
 judgedEnd words c =
     let commits = historyIn words .commits in
-    let line : CellLine = record { value = replay (wordSetting (cellsOf words)) commits everyCommit c; number = versionCount commits c } in
+    let line : CellLine = record { content = replay commits everyCommit c; number = versionCount commits c } in
     if isLedger words && ltb c (cellsOf words) then (some line) else none
 
 -- What the question for a cell's end comes to.

@@ -62,7 +62,7 @@ pub fn step(words: &mut [u32], handler: u32, code: u32, value: u32) -> Answer
     }
 }
 
-// A cell's value, and how many commits wrote it.
+// What a cell holds, and how many commits wrote it.
 pub fn cell_end(words: &[u32], c: u32) -> End
     ensures { λ r. ⌜ JudgedEndPromise (now (words .entry)) c (endIs r) ⌝ }
 {
@@ -76,7 +76,7 @@ pub fn cell_end(words: &[u32], c: u32) -> End
     let count = words[places::COMMITS_NOTED] as usize;
     let version = answers::present_version(words, x, count);
     End::Cell {
-        value: answers::present_value(words, x, count),
+        content: answers::present_content(words, x, count),
         number: version.number,
     }
 }

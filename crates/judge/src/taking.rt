@@ -3,26 +3,37 @@ ghost use mathlib.Core.Path.{_≡_};
 ghost use Prim.Native.Nat.{ℕ};
 ghost use Rattle.rules.specs.steps.Codes.{Step, known, try, read};
 ghost use Rattle.layout.specs.Places.{cellsOf};
-ghost use Rattle.replies.specs.Meaning.{outcomeIs, replyIs};
+ghost use Rattle.replies.specs.Meaning.{contentIs, outcomeIs, replyIs};
+ghost use Rattle.ledger.specs.Noting.{contentWord};
 ghost use Rattle.checks.specs.Meaning.{kindIs};
 ghost use Rattle.judge.specs.Taking.{JudgeReady, Able, TakesNoted, Passes};
 use crate::reading::is_too_many;
 use checks::Kind;
 use replies::Answer;
+use replies::Content;
 use replies::Outcome;
 use replies::Reason;
 use replies::Refusal;
 use replies::Report;
 
-// A read of the cell x: its copy, or abort 1, or the value of its present version.
+// The word that is noted of what a read showed.
+fn noted_word(content: Content) -> u32
+    ensures { λ r. ⌜ r ≡ contentWord (contentIs content) ⌝ }
+{
+    match content {
+        Content::Unset => 0,
+        Content::Value(value) => value,
+    }
+}
+
+// A read of the cell x: what its copy shows, or abort 1, or what its present version shows.
 fn read(words: &mut [u32], m: usize, i: usize, x: usize) -> Outcome
     requires { ⌜ JudgeReady (now words) m i (read x) ⌝ }
     ensures { λ r. ⌜ ((v : ℕ) → TakesNoted (now (words .entry)) i (read x) v (outcomeIs r) (now (words .exit))) ⌝ }
 {
     let row = places::handler_row(i);
     if answers::has_copy(words, row, x) {
-        let at = places::copy_at(row, x);
-        return Outcome::Value(words[at]);
+        return Outcome::Shows(answers::copy_content(words, row, x));
     }
     let count = words[places::COMMITS_NOTED] as usize;
     let place = answers::writer_of(words, x, count);
@@ -30,9 +41,9 @@ fn read(words: &mut [u32], m: usize, i: usize, x: usize) -> Outcome
         noting::empty_row(words, row, 0);
         return Outcome::Aborted(Reason::Torn);
     }
-    let value = answers::present_value(words, x, count);
-    noting::note_read(words, row, x, place, value);
-    Outcome::Value(value)
+    let content = answers::present_content(words, x, count);
+    noting::note_read(words, row, x, place, noted_word(content));
+    Outcome::Shows(content)
 }
 
 // A try: abort 2, or commit.

@@ -1,14 +1,15 @@
--- What an entry's deeds are, cell by cell: which reads pass a test, what was written, the copies, and what is left on a table.
+-- What an entry's deeds are, cell by cell: which reads pass a test, what was written, what the copies show, and what is left on a table.
 use Prim.Native.Nat.{ℕ, zero, suc, _-_, _<_}
 use native.Mathlib.Omega.{arith}
 use native.Mathlib.Numerals.{sub-one}
 use mathlib.Core.Path.{_≡_, refl, sym, ap, _∙_, fun-ext}
-use mathlib.Core.Bool.{Bool, true, false, _&&_, _||_, and-true}
+use mathlib.Core.Bool.{Bool, true, false, _&&_, _||_, and-true, or-true}
 use mathlib.Core.List.{List}
 use lib.Dec.{eqb, ltb}
 use borrow.Author.Tests.{ltb-true, lt-ltb, le-ltb, eqb-true, eqb-false, eq-eqb, ne-eqb}
 use Rattle.rules.specs.steps.Tables.{if_then_else_, put, lowest, someBelow}
-use Rattle.rules.specs.steps.Register.{Setting}
+use Rattle.rules.specs.steps.Replies.{Content, unset, value}
+use Rattle.rules.specs.steps.Figure.{versionShows}
 use Rattle.rules.specs.history.History.{Deed, someLook, hasRead, hasWritten}
 use Rattle.rules.specs.history.Replay.{after}
 use Rattle.rules.specs.demand.Judge.{copied}
@@ -26,6 +27,26 @@ lookPasses test c (suc source) = test c source
 unfoldable pub hasSource : ℕ → Bool
 hasSource zero = false
 hasSource (suc source) = true
+
+-- What a noted copy shows: what was written, or else the version read, whose source is one below what is noted.
+unfoldable pub copyShows : Bool → ℕ → ℕ → Content ℕ
+copyShows isWritten noted v = if isWritten then (value v) else (versionShows (noted - 1) v)
+
+-- The opening's version shows nothing,
+pub shows-nothing : (number v : ℕ) → number ≡ 0 → versionShows number v ≡ unset
+unfolding versionShows
+shows-nothing number v e = rw (eq-eqb number 0 e)
+
+-- and every other its value.
+pub shows-value : (number v : ℕ) → (number ≡ 0 → ⊥) → versionShows number v ≡ value v
+unfolding versionShows
+shows-value number v ne = rw (ne-eqb number 0 ne)
+
+-- Where no source is noted, nothing is shown anyway.
+source-shows : (noted v : ℕ) → (if hasSource noted || false then (versionShows (noted - 1) v) else unset) ≡ versionShows (noted - 1) v
+unfolding hasSource versionShows
+source-shows zero v = refl
+source-shows (suc source) v = refl
 
 -- A place other than c is below c just where it is below the next.
 below-next : (c y : ℕ) → (y ≡ c → ⊥) → ltb y (suc c) ≡ ltb y c
@@ -70,19 +91,19 @@ writes-next true (suc source) c v deeds y = by (eqb y c) (λ e. rw e) (λ e. rw 
 writes-next false zero c v deeds y = by (eqb y c) (λ e. rw e) (λ e. rw e)
 writes-next false (suc source) c v deeds y = by (eqb y c) (λ e. rw e) (λ e. rw e)
 
--- A copy is the one noted, or one below.
-copies-next : (S : Setting ℕ) (isWritten : Bool) (source c v : ℕ) (deeds : List (Deed ℕ)) (y : ℕ)
-    → copied S (cellDeeds isWritten source c v deeds) y
-    ≡ (if eqb y c && (hasSource source || isWritten) then v else (copied S deeds y))
-unfolding setOf lookOf copied put hasSource
-copies-next S true zero c v deeds y = by (eqb y c) (λ e. rw e) (λ e. rw e)
-copies-next S true (suc source) c v deeds y = by (eqb y c) (λ e. rw e) (λ e. rw e)
-copies-next S false zero c v deeds y = by (eqb y c) (λ e. rw e) (λ e. rw e)
-copies-next S false (suc source) c v deeds y = by (eqb y c) (λ e. rw e) (λ e. rw e)
+-- A copy shows what is noted of c, or what it shows below.
+copies-next : (isWritten : Bool) (source c v : ℕ) (deeds : List (Deed ℕ)) (y : ℕ)
+    → copied (cellDeeds isWritten source c v deeds) y
+    ≡ (if eqb y c && (hasSource source || isWritten) then (copyShows isWritten source v) else (copied deeds y))
+unfolding setOf lookOf copied put hasSource copyShows
+copies-next true zero c v deeds y = by (eqb y c) (λ e. rw e) (λ e. rw e)
+copies-next true (suc source) c v deeds y = by (eqb y c) (λ e. rw e) (λ e. rw e)
+copies-next false zero c v deeds y = by (eqb y c) (λ e. rw e) (λ e. rw e)
+copies-next false (suc source) c v deeds y = by (eqb y c) (λ e. rw (e, sub-one)) (λ e. rw e)
 
 -- What is left on a table is the write noted, or what was left below.
-leaves-next : (table : ℕ → ℕ) (isWritten : Bool) (source c v : ℕ) (deeds : List (Deed ℕ)) (y : ℕ)
-    → after (cellDeeds isWritten source c v deeds) table y ≡ (if eqb y c && isWritten then v else (after deeds table y))
+leaves-next : (table : ℕ → Content ℕ) (isWritten : Bool) (source c v : ℕ) (deeds : List (Deed ℕ)) (y : ℕ)
+    → after (cellDeeds isWritten source c v deeds) table y ≡ (if eqb y c && isWritten then (value v) else (after deeds table y))
 unfolding setOf lookOf after put
 leaves-next table true zero c v deeds y = by (eqb y c) (λ e. rw e) (λ e. rw e)
 leaves-next table true (suc source) c v deeds y = by (eqb y c) (λ e. rw e) (λ e. rw e)
@@ -137,19 +158,19 @@ module _ (e : Entry) where
   writes-at = settled-below (λ m. hasWritten (deedsOf e m)) (e .written) (λ _. true) (λ _. false) (λ y. unfold hasWritten in refl)
       (λ c y. writes-next (e .written c) (e .sources c) c (e .copies c) (deedsOf e c) y)
 
-  -- The copies are the noted ones below m.
-  pub copies-at : (S : Setting ℕ) (m y : ℕ)
-      → copied S (deedsOf e m) y ≡ (if ltb y m && (hasSource (e .sources y) || e .written y) then (e .copies y) else (S .empty))
+  -- The copies show what is noted below m, and else nothing.
+  pub copies-at : (m y : ℕ) → copied (deedsOf e m) y
+      ≡ (if ltb y m && (hasSource (e .sources y) || e .written y) then (copyShows (e .written y) (e .sources y) (e .copies y)) else unset)
   unfolding deedsOf
-  copies-at S = settled-below (λ m. copied S (deedsOf e m)) (λ c. hasSource (e .sources c) || e .written c) (e .copies)
-      (λ _. S .empty) (λ y. unfold copied in refl)
-      (λ c y. copies-next S (e .written c) (e .sources c) c (e .copies c) (deedsOf e c) y)
+  copies-at = settled-below (λ m. copied (deedsOf e m)) (λ c. hasSource (e .sources c) || e .written c)
+      (λ c. copyShows (e .written c) (e .sources c) (e .copies c)) (λ _. unset) (λ y. unfold copied in refl)
+      (λ c y. copies-next (e .written c) (e .sources c) c (e .copies c) (deedsOf e c) y)
 
   -- What is left on a table is the copy at the written cells below m.
-  pub leaves-at : (table : ℕ → ℕ) (m y : ℕ)
-      → after (deedsOf e m) table y ≡ (if ltb y m && e .written y then (e .copies y) else (table y))
+  pub leaves-at : (table : ℕ → Content ℕ) (m y : ℕ)
+      → after (deedsOf e m) table y ≡ (if ltb y m && e .written y then (value (e .copies y)) else (table y))
   unfolding deedsOf
-  leaves-at table = settled-below (λ m. after (deedsOf e m) table) (e .written) (e .copies) table (λ y. unfold after in refl)
+  leaves-at table = settled-below (λ m. after (deedsOf e m) table) (e .written) (λ c. value (e .copies c)) table (λ y. unfold after in refl)
       (λ c y. leaves-next table (e .written c) (e .sources c) c (e .copies c) (deedsOf e c) y)
 
   -- A read of a cell below m passes a test just where the noted one does.
@@ -191,3 +212,15 @@ module _ (e : Entry) where
   pub copy-noted : (m x : ℕ) {noted : ℕ} → x < m → noted ≡ e .sources x → (noted ≡ 0 → ⊥)
       → hasRead (deedsOf e m) x || hasWritten (deedsOf e m) x ≡ true
   copy-noted m x inside told some = rw (reads-at m x inside, ← told, source-noted _ some)
+
+  -- The copy of a cell that was written shows the value,
+  pub shown-written : (m x : ℕ) → x < m → e .written x ≡ true → copied (deedsOf e m) x ≡ value (e .copies x)
+  unfolding copyShows
+  shown-written m x inside written = copies-at m x ∙ rw (lt-ltb x m inside, written, or-true (hasSource (e .sources x)))
+
+  -- and that of one that was not the version of its source.
+  pub shown-read : (m x : ℕ) {noted : ℕ} → x < m → e .written x ≡ false → noted ≡ e .sources x
+      → copied (deedsOf e m) x ≡ versionShows (noted - 1) (e .copies x)
+  unfolding copyShows
+  shown-read m x inside unwritten told =
+      copies-at m x ∙ rw (lt-ltb x m inside, unwritten, told) (source-shows (e .sources x) (e .copies x))

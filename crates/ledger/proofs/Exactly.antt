@@ -3,7 +3,7 @@
 use Prim.Native.Nat.{ℕ, _<_}
 use native.Mathlib.Omega.{arith}
 use mathlib.Core.Path.{_≡_, refl, sym, ap, _∙_}
-use mathlib.Core.Bool.{true, false, _&&_, true≢false}
+use mathlib.Core.Bool.{true, false, _&&_}
 use mathlib.Core.List.{List}
 use mathlib.Core.Logic.{_↔_, _⊎_, inl, inr}
 use lib.Dec.{leb}
@@ -53,7 +53,7 @@ module _ {words : List ℕ} {m n : ℕ} {reply : Opening} {after : List ℕ} (p 
 -- The one outcome of a commit is commit.
 commit-only : (outcome : Outcome ℕ) → isCommit outcome ≡ true → outcome ≡ committed
 commit-only Outcome.ok e = both-ways e refl
-commit-only (Outcome.value v) e = both-ways e refl
+commit-only (Outcome.shows content) e = both-ways e refl
 commit-only committed e = refl
 commit-only (aborted reason) e = both-ways e refl
 

@@ -11,7 +11,6 @@ use Rattle.rules.specs.steps.Given.{InRange}
 use Rattle.rules.specs.history.History.{Deed, Abort, transaction}
 use Rattle.rules.proofs.history.Alike.{SameDeeds, SameCommits, more, SameHistory}
 use Rattle.layout.specs.Places.{cellsOf, handlersOf}
-use Rattle.layout.specs.View.{wordSetting}
 use Rattle.layout.proofs.Rows.{below-inside}
 use Rattle.ledger.specs.Entries.{Ledger, Entry, entryIn, withEntry, commitsNoted, mostCommits, handlerRow, commitRow}
 use Rattle.ledger.specs.Histories.{deedsOf, commitsIn, isOpen, historyIn}
@@ -74,8 +73,8 @@ module _ {words : List ℕ} (ledger : Ledger words) {i : ℕ} (seat : i < handle
 
   -- With another entry for handler i, the words say that it does what the entry says.
   pub handler-noted : {opened : Bool} {deeds : List (Deed ℕ)} (e : Entry) (aborts : List (Abort ℕ)) → isOpen e ≡ opened
-      → SameDeeds (wordSetting (cellsOf words)) deeds (deedsOf e (cellsOf words))
-      → SameHistory (wordSetting (cellsOf words)) (changed (historyIn words) i opened deeds (historyIn words .commits) aborts)
+      → SameDeeds deeds (deedsOf e (cellsOf words))
+      → SameHistory (changed (historyIn words) i opened deeds (historyIn words .commits) aborts)
       (historyIn (withEntry words (handlerRow i) e))
   unfolding historyIn
   handler-noted e aborts isOpened same = history-changed ledger seat changes aborts isOpened same (same-commits (sym kept))
@@ -188,7 +187,7 @@ module _ {words : List ℕ} (ledger : Ledger words) {i : ℕ} (seat : i < handle
       (with-other words (commitRow place) new (row-fits ledger (commitRow place) new (omega arith) (omega arith)) row away)
 
   -- The commits are those before and the new one.
-  commits-noted : SameCommits (wordSetting (cellsOf words)) (transaction (historyIn words) i ∷ historyIn words .commits)
+  commits-noted : SameCommits (transaction (historyIn words) i ∷ historyIn words .commits)
       (commitsIn (cellsOf words) (noteCommitRow words i) place)
   unfolding commitsIn historyIn committedEntry
   commits-noted = more (sym (here .head)) (same-deeds deeds) (same-commits (sym kept))
@@ -207,7 +206,7 @@ module _ {words : List ℕ} (ledger : Ledger words) {i : ℕ} (seat : i < handle
 
   -- A commit is noted as one more.
   pub commit-noted : (aborts : List (Abort ℕ))
-      → SameHistory (wordSetting (cellsOf words))
+      → SameHistory
       (changed (historyIn words) i false [] (transaction (historyIn words) i ∷ historyIn words .commits) aborts)
       (historyIn (noteCommitRow words i))
   unfolding emptyEntry

@@ -7,13 +7,11 @@ use mathlib.Core.List.{List, [], _∷_}
 use lib.Dec.{eqb, ltb}
 use borrow.Author.Tests.{ltb-true}
 use Rattle.rules.specs.steps.Tables.{put}
-use Rattle.rules.specs.steps.Register.{Setting}
 use Rattle.rules.specs.history.History.{Deed, Commit, Abort, History}
 use Rattle.rules.proofs.steps.Tables.{by, put-each}
 use Rattle.rules.proofs.history.Alike.{SameDeeds, SameCommits, SameHistory, deeds-refl, commits-refl}
 use Rattle.layout.specs.Rows.{below}
 use Rattle.layout.specs.Places.{cellsOf, handlersOf}
-use Rattle.layout.specs.View.{wordSetting}
 use Rattle.layout.proofs.Rows.{below-inside}
 use Rattle.ledger.specs.Entries.{Ledger, Entry, entryIn, commitsNoted, handlerRow, commitRow}
 use Rattle.ledger.specs.Histories.{lookOf, setOf, deedsOf, commitOf, commitsIn, isOpen, historyIn}
@@ -65,12 +63,12 @@ unfolding below
 below-same n rest table other j same = by (ltb j n) (λ e. rw e (same (ltb-true j n e))) (λ e. rw e)
 
 -- Deeds that are equal are the same.
-pub same-deeds : {S : Setting ℕ} {a b : List (Deed ℕ)} → a ≡ b → SameDeeds S a b
-same-deeds {S} {a} same = subst (SameDeeds S a) same deeds-refl
+pub same-deeds : {a b : List (Deed ℕ)} → a ≡ b → SameDeeds a b
+same-deeds {a} same = subst (SameDeeds a) same deeds-refl
 
 -- Commits that are equal are the same.
-pub same-commits : {S : Setting ℕ} {a b : List (Commit ℕ)} → a ≡ b → SameCommits S a b
-same-commits {S} {a} same = subst (SameCommits S a) same commits-refl
+pub same-commits : {a b : List (Commit ℕ)} → a ≡ b → SameCommits a b
+same-commits {a} same = subst (SameCommits a) same commits-refl
 
 -- ── One handler changed ───────────────────────────────────────────────
 
@@ -116,16 +114,16 @@ module _ {words : List ℕ} (ledger : Ledger words) {i : ℕ} (seat : i < handle
           below-same (handlersOf words) rest before now j (λ l. sym (alike _ _ (changes .others j apart l))) ∙ sym (counted j)
 
   -- The words say the history with handler i changed, and with the commits that they now note.
-  pub history-changed : {S : Setting ℕ} {opened : Bool} {deeds : List (Deed ℕ)} {commits : List (Commit ℕ)} (aborts : List (Abort ℕ))
-      → isOpen e ≡ opened → SameDeeds S deeds (deedsOf e (cellsOf words)) → SameCommits S commits (commitsIn (cellsOf words) after count)
-      → SameHistory S (changed (historyIn words) i opened deeds commits aborts) (historyIn after)
+  pub history-changed : {opened : Bool} {deeds : List (Deed ℕ)} {commits : List (Commit ℕ)} (aborts : List (Abort ℕ))
+      → isOpen e ≡ opened → SameDeeds deeds (deedsOf e (cellsOf words)) → SameCommits commits (commitsIn (cellsOf words) after count)
+      → SameHistory (changed (historyIn words) i opened deeds commits aborts) (historyIn after)
   unfolding historyIn
-  history-changed {S} {opened} {deeds} {commits} aborts isOpened same noted = record {
-    commits = subst₂ (λ m k. SameCommits S commits (commitsIn m after k)) (sym (changes .cells)) (sym (changes .noted)) noted;
+  history-changed {opened} {deeds} {commits} aborts isOpened same noted = record {
+    commits = subst₂ (λ m k. SameCommits commits (commitsIn m after k)) (sym (changes .cells)) (sym (changes .noted)) noted;
     opened = table-changed _≡_ false isOpen opened (λ _. refl) (sym isOpened) (λ f g alike. ap (λ (head : ℕ). not (eqb head 0)) (alike .head));
-    now = λ j. subst (λ m. SameDeeds S (put (historyIn words .now) i deeds j) (below (handlersOf after) [] (λ k. deedsOf (entryIn after (handlerRow k)) m) j))
+    now = λ j. subst (λ m. SameDeeds (put (historyIn words .now) i deeds j) (below (handlersOf after) [] (λ k. deedsOf (entryIn after (handlerRow k)) m) j))
         (sym (changes .cells))
-        (table-changed (SameDeeds S) [] (λ f. deedsOf f (cellsOf words)) deeds (λ _. deeds-refl) same
+        (table-changed SameDeeds [] (λ f. deedsOf f (cellsOf words)) deeds (λ _. deeds-refl) same
         (λ f g. deeds-of-same (cellsOf words) (ledger .range .cells)) j);
   }
 
@@ -136,4 +134,4 @@ pub record Says (m n : ℕ) (words : List ℕ) (h : History ℕ) : Type 0 where
   pub ledger : Ledger words
   pub cells : cellsOf words ≡ m
   pub handlers : handlersOf words ≡ n
-  pub same : SameHistory (wordSetting m) h (historyIn words)
+  pub same : SameHistory h (historyIn words)

@@ -1,12 +1,14 @@
 -- A deed on top of an entry's deeds is one more note in the entry: no answer can tell the two apart.
 use Prim.Native.Nat.{ℕ, suc, _<_}
+use native.Mathlib.Numerals.{sub-one}
 use mathlib.Core.Path.{_≡_, refl, sym, ap, _∙_}
 use mathlib.Core.Bool.{Bool, true, false, _||_, or-true}
 use mathlib.Core.List.{_∷_}
 use lib.Dec.{eqb}
 use borrow.Author.Tests.{lt-ltb, eqb-true, eqb-false}
 use Rattle.rules.specs.steps.Tables.{put, someBelow}
-use Rattle.rules.specs.steps.Register.{Setting}
+use Rattle.rules.specs.steps.Replies.{Content, value}
+use Rattle.rules.specs.steps.Figure.{versionShows}
 use Rattle.rules.specs.history.History.{look, set, someLook, hasWritten}
 use Rattle.rules.specs.history.Replay.{after}
 use Rattle.rules.specs.demand.Judge.{copied}
@@ -16,7 +18,7 @@ use Rattle.rules.proofs.history.Alike.{SameDeeds}
 use Rattle.ledger.specs.Entries.{Entry}
 use Rattle.ledger.specs.Histories.{deedsOf}
 use Rattle.ledger.specs.Noting.{readEntry, writtenEntry}
-use Rattle.ledger.proofs.Deeds.{lookPasses, hasSource, looks-at, writes-at, copies-at, leaves-at}
+use Rattle.ledger.proofs.Deeds.{lookPasses, hasSource, copyShows, looks-at, writes-at, copies-at, leaves-at}
 
 -- Two entries say the same of the cell y.
 pub record SameAt (e f : Entry) (y : ℕ) : Type 0 where
@@ -28,16 +30,16 @@ pub record SameAt (e f : Entry) (y : ℕ) : Type 0 where
 writes-same : (m : ℕ) {e f : Entry} {y : ℕ} → SameAt e f y → hasWritten (deedsOf e m) y ≡ hasWritten (deedsOf f m) y
 writes-same m {e} {f} {y} same = writes-at e m y ∙ rw (same .written) (sym (writes-at f m y))
 
-module _ (S : Setting ℕ) (m : ℕ) {e f : Entry} {y : ℕ} (same : SameAt e f y) where
-  -- Then the cell's copy is the same,
-  copies-same : copied S (deedsOf e m) y ≡ copied S (deedsOf f m) y
-  copies-same = copies-at e S m y ∙ rw (same .written, same .sources, same .copies) (sym (copies-at f S m y))
+module _ (m : ℕ) {e f : Entry} {y : ℕ} (same : SameAt e f y) where
+  -- Then the cell's copy shows the same,
+  copies-same : copied (deedsOf e m) y ≡ copied (deedsOf f m) y
+  copies-same = copies-at e m y ∙ rw (same .written, same .sources, same .copies) (sym (copies-at f m y))
 
   -- and what is left there.
-  leaves-same : (table : ℕ → ℕ) → after (deedsOf e m) table y ≡ after (deedsOf f m) table y
+  leaves-same : (table : ℕ → Content ℕ) → after (deedsOf e m) table y ≡ after (deedsOf f m) table y
   leaves-same table = leaves-at e table m y ∙ rw (same .written, same .copies) (sym (leaves-at f table m y))
 
-module _ (S : Setting ℕ) (e : Entry) (m x v : ℕ) (inside : x < m) where
+module _ (e : Entry) (m x v : ℕ) (inside : x < m) where
   -- A read noted at x changes nothing noted of other cells,
   read-elsewhere : (source y : ℕ) → (y ≡ x → ⊥) → SameAt e (readEntry e x source v) y
   unfolding readEntry
@@ -56,18 +58,18 @@ module _ (S : Setting ℕ) (e : Entry) (m x v : ℕ) (inside : x < m) where
     copies = sym (put-other (e .copies) x v y apart);
   }
 
-  -- The cell's copy is the value read,
-  read-copy : (source : ℕ) → copied S (deedsOf (readEntry e x source v) m) x ≡ v
-  unfolding readEntry hasSource
-  read-copy source =
-      copies-at (readEntry e x source v) S m x
-      ∙ rw (lt-ltb x m inside, put-here (e .sources) x (suc source), put-here (e .copies) x v)
+  -- The cell's copy shows the version read,
+  read-copy : (source : ℕ) → e .written x ≡ false → copied (deedsOf (readEntry e x source v) m) x ≡ versionShows source v
+  unfolding readEntry hasSource copyShows
+  read-copy source unwritten =
+      copies-at (readEntry e x source v) m x
+      ∙ rw (lt-ltb x m inside, put-here (e .sources) x (suc source), put-here (e .copies) x v, unwritten, sub-one)
 
   -- or the value written.
-  write-copy : copied S (deedsOf (writtenEntry e x v) m) x ≡ v
-  unfolding writtenEntry
+  write-copy : copied (deedsOf (writtenEntry e x v) m) x ≡ value v
+  unfolding writtenEntry copyShows
   write-copy =
-      copies-at (writtenEntry e x v) S m x
+      copies-at (writtenEntry e x v) m x
       ∙ rw (lt-ltb x m inside, put-here (e .written) x true, put-here (e .copies) x v, or-true (hasSource (e .sources x)))
 
   -- A cell that is noted as written is written.
@@ -76,7 +78,7 @@ module _ (S : Setting ℕ) (e : Entry) (m x v : ℕ) (inside : x < m) where
   write-writes = writes-at (writtenEntry e x v) m x ∙ rw (lt-ltb x m inside, put-here (e .written) x true)
 
   -- A read leaves nothing on a table at a cell that is not written,
-  read-leaves : (source : ℕ) (table : ℕ → ℕ) → e .written x ≡ false
+  read-leaves : (source : ℕ) (table : ℕ → Content ℕ) → e .written x ≡ false
       → after (deedsOf e m) table x ≡ after (deedsOf (readEntry e x source v) m) table x
   unfolding readEntry
   read-leaves source table unwritten =
@@ -84,7 +86,7 @@ module _ (S : Setting ℕ) (e : Entry) (m x v : ℕ) (inside : x < m) where
       (sym (leaves-at (readEntry e x source v) table m x ∙ rw (lt-ltb x m inside, unwritten)))
 
   -- and a write its value.
-  write-leaves : (table : ℕ → ℕ) → after (deedsOf (writtenEntry e x v) m) table x ≡ v
+  write-leaves : (table : ℕ → Content ℕ) → after (deedsOf (writtenEntry e x v) m) table x ≡ value v
   unfolding writtenEntry
   write-leaves table =
       leaves-at (writtenEntry e x v) table m x
@@ -111,21 +113,21 @@ module _ (S : Setting ℕ) (e : Entry) (m x v : ℕ) (inside : x < m) where
 
   -- A read from the cells, of a cell with nothing noted, is noted as one more read.
   pub read-noted : (source : ℕ) → e .sources x ≡ 0 → e .written x ≡ false
-      → SameDeeds S (look x source v ∷ deedsOf e m) (deedsOf (readEntry e x source v) m)
+      → SameDeeds (look x source (versionShows source v) ∷ deedsOf e m) (deedsOf (readEntry e x source v) m)
   unfolding someLook hasWritten copied after put readEntry
   read-noted source unread unwritten = record {
     looks = λ test. read-looks source test unread;
     writes = λ y. writes-at e m y ∙ sym (writes-at (readEntry e x source v) m y);
     copies = λ y. by (eqb y x)
-        (λ q. rw q (sym (rw (eqb-true y x q) (read-copy source))))
-        (λ q. rw q (copies-same S m (read-elsewhere source y (eqb-false y x q))));
+        (λ q. rw q (sym (rw (eqb-true y x q) (read-copy source unwritten))))
+        (λ q. rw q (copies-same m (read-elsewhere source y (eqb-false y x q))));
     leaves = λ table y. by (eqb y x)
         (λ q. rw (eqb-true y x q) (read-leaves source table unwritten))
-        (λ q. leaves-same S m (read-elsewhere source y (eqb-false y x q)) table);
+        (λ q. leaves-same m (read-elsewhere source y (eqb-false y x q)) table);
   }
 
   -- A write is noted as a write.
-  pub write-noted : SameDeeds S (set x v ∷ deedsOf e m) (deedsOf (writtenEntry e x v) m)
+  pub write-noted : SameDeeds (set x v ∷ deedsOf e m) (deedsOf (writtenEntry e x v) m)
   unfolding someLook hasWritten copied after put writtenEntry
   write-noted = record {
     looks = λ test. looks-at e test m ∙ sym (looks-at (writtenEntry e x v) test m);
@@ -134,8 +136,8 @@ module _ (S : Setting ℕ) (e : Entry) (m x v : ℕ) (inside : x < m) where
         (λ q. rw q (writes-same m (write-elsewhere y (eqb-false y x q))));
     copies = λ y. by (eqb y x)
         (λ q. rw q (sym (rw (eqb-true y x q) write-copy)))
-        (λ q. rw q (copies-same S m (write-elsewhere y (eqb-false y x q))));
+        (λ q. rw q (copies-same m (write-elsewhere y (eqb-false y x q))));
     leaves = λ table y. by (eqb y x)
         (λ q. rw q (sym (rw (eqb-true y x q) (write-leaves table))))
-        (λ q. rw q (leaves-same S m (write-elsewhere y (eqb-false y x q)) table));
+        (λ q. rw q (leaves-same m (write-elsewhere y (eqb-false y x q)) table));
   }

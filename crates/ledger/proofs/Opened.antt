@@ -15,7 +15,6 @@ use Rattle.rules.proofs.steps.Given.{range-tested}
 use Rattle.rules.proofs.history.Alike.{SameHistory}
 use Rattle.layout.specs.Bits.{hasBit}
 use Rattle.layout.specs.Rows.{row}
-use Rattle.layout.specs.View.{wordSetting}
 use Rattle.layout.proofs.Bits.{has-mask, mask-none}
 use Rattle.layout.proofs.Rows.{row-length, row-first, below-is}
 use Rattle.promises.proofs.Leaves.{opening-passes, checks-passed}
@@ -79,7 +78,7 @@ module _ (m n : ℕ) (range : InRange m n) (rest : List ℕ) where
       (λ i seat. deeds-of-same m (range .cells) (fresh-handler i seat) ∙ empty-deeds 0 m) (λ i l. refl)
 
   -- They say no history.
-  fresh-history : SameHistory (wordSetting m) noHistory (historyIn words)
+  fresh-history : SameHistory noHistory (historyIn words)
   unfolding noHistory historyIn commitsIn freshLedger
   fresh-history = record {
     commits = same-commits (ap (commitsIn m words) (sym (fresh-zero 2 (omega arith) (omega arith))));

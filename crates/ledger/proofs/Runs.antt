@@ -1,6 +1,6 @@
 -- The words of the judge say the history of its own replies, so each reply is what that history tells.
 use Prim.Native.Nat.{ℕ}
-use mathlib.Core.Path.{_≡_, sym, ap, ap₂, _∙_, subst, subst₂}
+use mathlib.Core.Path.{_≡_, sym, ap, ap₂, _∙_, subst₂}
 use mathlib.Core.List.{List}
 use lib.ListN.{length}
 use Rattle.rules.specs.steps.Codes.{plainSheet}
@@ -30,7 +30,7 @@ says-count {words = words} says = sym (length-same (says .same .commits) ∙ com
 module _ {m n : ℕ} {words : List ℕ} {h : History ℕ} (says : Says m n words h) (i code : ℕ) where
   -- The reply is what the history tells, within the limit.
   pub says-reply : judgedReply words i code ≡ limited (commitsNoted words) (judgement (wordSetting m) n h i code)
-  says-reply = reply-limited (says .ledger) i code ∙ ap (limited (commitsNoted words)) (counted ∙ sym (judgement-same (says .same) i n code))
+  says-reply = reply-limited (says .ledger) i code ∙ ap (limited (commitsNoted words)) (counted ∙ sym (judgement-same (wordSetting m) (says .same) i n code))
     where
       counted : judgement (wordSetting (cellsOf words)) (handlersOf words) (historyIn words) i code ≡ judgement (wordSetting m) n (historyIn words) i code
       counted = ap₂ (λ cells handlers. judgement (wordSetting cells) handlers (historyIn words) i code) (says .cells) (says .handlers)
@@ -48,10 +48,9 @@ module _ {m n : ℕ} {words : List ℕ} {h : History ℕ} (says : Says m n words
       keeps : Keeps words (noteWords words i (plainSheet code) v (judgedReply words i code))
       keeps = reply-keeps (says .ledger) i code v
 
-      here : SameHistory (wordSetting m) (noteReply (historyIn words) i (plainSheet code) v (judgedReply words i code))
+      here : SameHistory (noteReply (historyIn words) i (plainSheet code) v (judgedReply words i code))
           (historyIn (noteWords words i (plainSheet code) v (judgedReply words i code)))
-      here = subst (λ cells. SameHistory (wordSetting cells) (noteReply (historyIn words) i (plainSheet code) v (judgedReply words i code))
-          (historyIn (noteWords words i (plainSheet code) v (judgedReply words i code)))) (says .cells) (reply-noted (says .ledger) i code v)
+      here = reply-noted (says .ledger) i code v
 
 -- So do the words of every run.
 pub run-says : {m n : ℕ} {asks : List (Ask ℕ)} {words : List ℕ} {h : History ℕ} → JudgedRun m n asks words h → Says m n words h

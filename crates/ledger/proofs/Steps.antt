@@ -96,19 +96,20 @@ module _ {words : List ℕ} (ledger : Ledger words) (i code : ℕ) where
       → Q (judgedReply words i code) (plainSheet code) (noteWords words i (plainSheet code) v (judgedReply words i code))
   unfolding noteWords
   after-cases v Q isRefused isFree = reply-cases (λ reply. Q reply (plainSheet code) (noteWords words i (plainSheet code) v reply))
-      (λ refusal. subst (Q (Reply.refused refusal) (plainSheet code)) (sym (refusal-unnoted words i (plainSheet code) v refusal)) (isRefused refusal (plainSheet code)))
+      (λ refusal. subst (Q (Reply.refused refusal) (plainSheet code)) (sym (refusal-unnoted words i (plainSheet code) v refusal))
+      (isRefused refusal (plainSheet code)))
       (λ s free room. subst (λ kind. Q (told s) kind (noteWords words i kind v (told s))) (sym (free .fits .heard .known)) (isFree s free room))
     where
       told : Step → Reply ℕ
       told s = reportedTo i code (answer S h i s)
 
   -- They say the history with the reply noted,
-  pub reply-noted : (v : ℕ) → SameHistory S (noteReply h i (plainSheet code) v (judgedReply words i code))
+  pub reply-noted : (v : ℕ) → SameHistory (noteReply h i (plainSheet code) v (judgedReply words i code))
       (historyIn (noteWords words i (plainSheet code) v (judgedReply words i code)))
   unfolding noteReply
-  reply-noted v = after-cases v (λ reply kind after. SameHistory S (noteReply h i kind v reply) (historyIn after))
-      (λ refusal kind. subst (λ g. SameHistory S g h) (sym (note-refused h i kind v refusal)) history-refl)
-      (λ s free room. outcome-noted ledger (free .fits .heard .handler) s v (answer S h i s) (free .fits .cell) (free .phase) room)
+  reply-noted v = after-cases v (λ reply kind after. SameHistory (noteReply h i kind v reply) (historyIn after))
+      (λ refusal kind. subst (λ g. SameHistory g h) (sym (note-refused h i kind v refusal)) history-refl)
+      (λ s free room. outcome-noted ledger (free .fits .heard .handler) s v (answer S h i s) refl (free .fits .cell) (free .phase) room)
 
   -- and are a ledger of the same m and n.
   pub reply-keeps : (v : ℕ) → Keeps words (noteWords words i (plainSheet code) v (judgedReply words i code))

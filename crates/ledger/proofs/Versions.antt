@@ -1,14 +1,16 @@
--- Laws of the versions of one cell, from what the rows of the commits note: who wrote the present one, how many there are, the value
--- of the present one, and whether there is a later one.
+-- Laws of the versions of one cell, from what the rows of the commits note: who wrote the present one, how many there are, what the
+-- present one shows, and whether there is a later one.
 use Prim.Native.Nat.{ℕ, zero, suc, _+_, _<_}
 use native.Mathlib.Omega.{arith}
 use native.Mathlib.Numerals.{add-one}
 use mathlib.Core.Path.{_≡_, refl, sym, ap, _∙_}
 use mathlib.Core.Bool.{Bool, true, false, _&&_}
 use mathlib.Core.List.{List}
-use lib.Dec.{eqb, ltb}
-use borrow.Author.Tests.{lt-ltb, eq-eqb, ne-eqb}
+use lib.Dec.{ltb}
+use borrow.Author.Tests.{lt-ltb}
 use Rattle.rules.specs.steps.Tables.{if_then_else_, lowest, someBelow}
+use Rattle.rules.specs.steps.Replies.{Content, value}
+use Rattle.rules.specs.steps.Figure.{versionShows}
 use Rattle.rules.specs.history.History.{hasWritten, writerAmong, writer, everyCommit}
 use Rattle.rules.specs.history.Past.{later}
 use Rattle.rules.specs.history.Replay.{replay}
@@ -16,10 +18,9 @@ use Rattle.rules.specs.demand.Judge.{versionCount}
 use Rattle.rules.proofs.steps.Tables.{by}
 use Rattle.rules.proofs.steps.Searches.{some-next}
 use Rattle.rules.proofs.history.Versions.{writer-new, writer-old, count-new, count-old}
-use Rattle.layout.specs.View.{wordSetting}
 use Rattle.ledger.specs.Entries.{commitRow, Entry, entryIn}
 use Rattle.ledger.specs.Histories.{commitsIn}
-use Rattle.ledger.proofs.Deeds.{written-at, leaves-at}
+use Rattle.ledger.proofs.Deeds.{shows-nothing, shows-value, written-at, leaves-at}
 use Rattle.ledger.proofs.Commits.{commitAfter, commits-count}
 
 -- The entry of the commit at a place.
@@ -30,21 +31,9 @@ entryAt words place = entryIn words (commitRow place)
 abbrev pub isLater : List ℕ → ℕ → (ℕ → Bool) → ℕ → ℕ → Bool
 isLater words x included source place = included place && (entryAt words place .written x && ltb source place)
 
--- ── The value of a version ────────────────────────────────────────────
-
--- The value of the version of x that the commit at a place wrote; 0 for the opening's.
-unfoldable pub versionValue : List ℕ → ℕ → ℕ → ℕ
-versionValue words x place = if eqb place 0 then 0 else (entryAt words place .copies x)
-
--- The opening's is 0,
-pub value-opened : (words : List ℕ) (x place : ℕ) → place ≡ 0 → versionValue words x place ≡ 0
-unfolding versionValue
-value-opened words x place e = rw (eq-eqb place 0 e)
-
--- and a commit's is its copy.
-pub value-copied : (words : List ℕ) (x place : ℕ) → (place ≡ 0 → ⊥) → versionValue words x place ≡ entryAt words place .copies x
-unfolding versionValue
-value-copied words x place ne = rw (ne-eqb place 0 ne)
+-- What the version of x shows that the commit at a place wrote; place 0 is the opening.
+abbrev pub versionAt : List ℕ → ℕ → ℕ → Content ℕ
+versionAt words x place = versionShows place (entryAt words place .copies x)
 
 -- ── One commit more ───────────────────────────────────────────────────
 
@@ -90,21 +79,19 @@ module _ (m : ℕ) (words : List ℕ) (x : ℕ) (inside : x < m) where
   -- ── All commits ─────────────────────────────────────────────────────
 
   -- What the next commit leaves in the cell is its copy where it wrote the cell, and else what was there.
-  replay-next : (k : ℕ) → replay (wordSetting m) (commitsIn m words (suc k)) everyCommit x
-      ≡ (if entryAt words (suc k) .written x then (entryAt words (suc k) .copies x)
-      else (replay (wordSetting m) (commitsIn m words k) everyCommit x))
+  replay-next : (k : ℕ) → replay (commitsIn m words (suc k)) everyCommit x
+      ≡ (if entryAt words (suc k) .written x then (value (entryAt words (suc k) .copies x)) else (replay (commitsIn m words k) everyCommit x))
   unfolding replay commitsIn
-  replay-next k = leaves-at (entryAt words (suc k)) (replay (wordSetting m) (commitsIn m words k) everyCommit) m x ∙ rw (lt-ltb x m inside)
+  replay-next k = leaves-at (entryAt words (suc k)) (replay (commitsIn m words k) everyCommit) m x ∙ rw (lt-ltb x m inside)
 
-  -- What all commits leave in the cell is the value of its present version.
-  pub present-value : (k : ℕ)
-      → replay (wordSetting m) (commitsIn m words k) everyCommit x ≡ versionValue words x (writer (commitsIn m words k) x)
-  present-value zero = unfold replay commitsIn in sym (value-opened words x (writer (commitsIn m words 0) x) writer-none)
-  present-value (suc k) = replay-next k ∙ by (entryAt words (suc k) .written x)
+  -- What all commits leave in the cell is what its present version shows.
+  pub present-shows : (k : ℕ) → replay (commitsIn m words k) everyCommit x ≡ versionAt words x (writer (commitsIn m words k) x)
+  present-shows zero = unfold replay commitsIn in sym (shows-nothing (writer (commitsIn m words 0) x) _ writer-none)
+  present-shows (suc k) = replay-next k ∙ by (entryAt words (suc k) .written x)
       (λ e. let itself : writer (commitsIn m words (suc k)) x ≡ suc k = rw add-one at (writer-wrote k (rw add-one e)) in
-      rw (e, itself) (sym (value-copied words x (suc k) (omega arith))))
+      rw (e, itself) (sym (shows-value (suc k) _ (omega arith))))
       (λ e. let older : writer (commitsIn m words (suc k)) x ≡ writer (commitsIn m words k) x = rw add-one at (writer-kept k (rw add-one e)) in
-      rw (e, older) (present-value k))
+      rw (e, older) (present-shows k))
 
   -- A commit of a set wrote a later version just where some commit's row says so.
   pub later-at : (included : ℕ → Bool) (source count : ℕ)

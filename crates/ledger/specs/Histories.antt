@@ -4,15 +4,17 @@ use Prim.Native.Nat.{ℕ, zero, suc}
 use mathlib.Core.Bool.{Bool, true, false, not}
 use mathlib.Core.List.{List, [], _∷_}
 use lib.Dec.{eqb}
+use Rattle.rules.specs.steps.Figure.{versionShows}
 use Rattle.rules.specs.history.History.{Deed, look, set, Commit, History}
 use Rattle.layout.specs.Rows.{below}
 use Rattle.layout.specs.Places.{cellsOf, handlersOf}
 use Rattle.ledger.specs.Entries.{commitsNoted, handlerRow, commitRow, Entry, entryIn}
 
--- A read of the cell c from the cells, where its source is noted, on top of other deeds.
+-- A read of the cell c from the cells, where its source is noted, on top of other deeds. From the opening it showed nothing, whatever is
+-- noted as its copy.
 unfoldable pub lookOf : ℕ → ℕ → ℕ → List (Deed ℕ) → List (Deed ℕ)
 lookOf zero c v deeds = deeds
-lookOf (suc source) c v deeds = look c source v ∷ deeds
+lookOf (suc source) c v deeds = look c source (versionShows source v) ∷ deeds
 
 -- A write of the cell c, where it is noted, on top of other deeds.
 unfoldable pub setOf : Bool → ℕ → ℕ → List (Deed ℕ) → List (Deed ℕ)

@@ -5,7 +5,7 @@ use mathlib.Core.List.{List}
 use lib.ListN.{set}
 use Rattle.rules.specs.steps.Tables.{if_then_else_, put}
 use Rattle.rules.specs.steps.Codes.{Step, begin, try, giveUp, read, write, Kind, known, unknown}
-use Rattle.rules.specs.steps.Replies.{Outcome, ok, value, committed, aborted, Reply, reported}
+use Rattle.rules.specs.steps.Replies.{Content, unset, value, Outcome, ok, shows, committed, aborted, Reply, reported}
 use Rattle.rules.specs.steps.Register.{noCells, zeros}
 use Rattle.rules.specs.history.History.{hasRead, hasWritten, writer}
 use Rattle.ledger.specs.Entries.{commitsNoted, handlerRow, commitRow, Entry, entryIn, withEntry}
@@ -33,12 +33,17 @@ committedEntry i e = record { head = i; written = e .written; sources = e .sourc
 abbrev pub withHandlerEntry : List ℕ → ℕ → Entry → List ℕ
 withHandlerEntry words i e = withEntry words (handlerRow i) e
 
--- A read that was answered with v: noted where it is the first of a cell not written.
-unfoldable pub noteRead : List ℕ → ℕ → ℕ → ℕ → List ℕ
-noteRead words i x v =
+-- The word that is noted of what a read showed: a value, or 0 where it showed none; which of the two it was, its source tells.
+abbrev pub contentWord : Content ℕ → ℕ
+contentWord unset = 0
+contentWord (value v) = v
+
+-- A read that showed something: noted where it is the first of a cell not written.
+unfoldable pub noteRead : List ℕ → ℕ → ℕ → Content ℕ → List ℕ
+noteRead words i x content =
     let h = historyIn words in
     if hasRead (h .now i) x || hasWritten (h .now i) x then words
-    else (withHandlerEntry words i (readEntry (entryIn words (handlerRow i)) x (writer (h .commits) x) v))
+    else (withHandlerEntry words i (readEntry (entryIn words (handlerRow i)) x (writer (h .commits) x) (contentWord content)))
 
 -- Handler i's transaction commits: one commit more, and the handler is idle.
 unfoldable pub noteCommitRow : List ℕ → ℕ → List ℕ
@@ -54,11 +59,11 @@ noteOutcome words i (write x) v ok = withHandlerEntry words i (writtenEntry (ent
 noteOutcome words i (read x) v ok = words
 noteOutcome words i try v ok = words
 noteOutcome words i giveUp v ok = words
-noteOutcome words i (read x) v (value w) = noteRead words i x w
-noteOutcome words i begin v (value w) = words
-noteOutcome words i (write x) v (value w) = words
-noteOutcome words i try v (value w) = words
-noteOutcome words i giveUp v (value w) = words
+noteOutcome words i (read x) v (shows content) = noteRead words i x content
+noteOutcome words i begin v (shows content) = words
+noteOutcome words i (write x) v (shows content) = words
+noteOutcome words i try v (shows content) = words
+noteOutcome words i giveUp v (shows content) = words
 noteOutcome words i step v committed = noteCommitRow words i
 noteOutcome words i step v (aborted reason) = withHandlerEntry words i (emptyEntry 0)
 

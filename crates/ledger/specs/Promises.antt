@@ -9,7 +9,7 @@ use lib.Dec.{leb}
 use Rattle.rules.specs.Promise.{Due, Promise}
 use Rattle.rules.specs.steps.Tables.{if_then_else_}
 use Rattle.rules.specs.steps.Codes.{plainSheet}
-use Rattle.rules.specs.steps.Replies.{ok, value, committed, aborted, Outcome, Refusal, notWellFormed, tooManyCommits, Reply, reported, Opening}
+use Rattle.rules.specs.steps.Replies.{ok, shows, committed, aborted, Outcome, Refusal, notWellFormed, tooManyCommits, Reply, reported, Opening}
 use Rattle.rules.specs.steps.Register.{zeros}
 use Rattle.rules.specs.steps.Checks.{firstHit, openingChecks}
 use Rattle.rules.specs.demand.Judge.{judgement}
@@ -52,7 +52,7 @@ LedgerPromise words m n reply after = Promise openingLedger (record { words = wo
 -- It is the outcome of a commit.
 abbrev pub isCommit : Outcome ℕ → Bool
 isCommit ok = false
-isCommit (value v) = false
+isCommit (shows content) = false
 isCommit committed = true
 isCommit (aborted reason) = false
 

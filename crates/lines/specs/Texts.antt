@@ -2,7 +2,7 @@
 use Prim.Native.Nat.{ℕ, zero, suc}
 use mathlib.Core.List.{List, [], _∷_, _++_}
 use mathlib.Core.Option.{Option, none, some}
-use Rattle.rules.specs.steps.Replies.{Outcome, ok, value, committed, aborted, Refusal, Reply, reported, reasonNumber, refusalNumber}
+use Rattle.rules.specs.steps.Replies.{Content, unset, value, Outcome, ok, shows, committed, aborted, Refusal, Reply, reported, reasonNumber, refusalNumber}
 use Rattle.replies.specs.Ends.{CellLine}
 use Rattle.text.specs.Bytes.{ascii, decimal}
 use Rattle.lines.specs.Lines.{Line}
@@ -11,10 +11,15 @@ use Rattle.lines.specs.Lines.{Line}
 abbrev pub newline : List ℕ
 newline = 10 ∷ []
 
--- What a step came to: `ok`, `value V`, `commit` or `abort R`.
+-- What is shown of a cell: `unset` or `value V`.
+abbrev pub contentText : Content ℕ → List ℕ
+contentText unset = ascii "unset"
+contentText (value v) = ascii "value " ++ decimal v
+
+-- What a step came to: `ok`, what a read shows, `commit` or `abort R`.
 abbrev pub outcomeText : Outcome ℕ → List ℕ
 outcomeText ok = ascii "ok"
-outcomeText (value v) = ascii "value " ++ decimal v
+outcomeText (shows content) = contentText content
 outcomeText committed = ascii "commit"
 outcomeText (aborted reason) = ascii "abort " ++ decimal (reasonNumber reason)
 
@@ -54,9 +59,9 @@ linesText (line ∷ lines) = lineText line ++ linesText lines
 unfoldable pub headerText : ℕ → ℕ → List ℕ
 headerText n m = ascii "handlers " ++ decimal n ++ ascii " cells " ++ decimal m ++ newline
 
--- A cell at the end: its value and its own number.
+-- A cell at the end: what it holds, and its own number.
 unfoldable pub cellText : ℕ → CellLine → List ℕ
-cellText c cell = ascii "cell " ++ decimal c ++ ascii " value " ++ decimal (cell .value) ++ ascii " number " ++ decimal (cell .number) ++ newline
+cellText c cell = ascii "cell " ++ decimal c ++ ascii " " ++ contentText (cell .content) ++ ascii " number " ++ decimal (cell .number) ++ newline
 
 -- The text of a cell, if there is one.
 abbrev pub endText : ℕ → Option CellLine → List ℕ

@@ -2,12 +2,13 @@
 // Internal: called by our crates alone, which show what each function requires. A place's line fits in `limits::LONGEST_LINE` bytes.
 ghost use Prim.Native.Nat.{_+_, _*_, _≤_};
 ghost use Rattle.limits.specs.Limits.{mostFileBytes, longestLine};
-ghost use Rattle.replies.specs.Meaning.{outcomeIs, refusalIs, replyIs};
+ghost use Rattle.replies.specs.Meaning.{contentIs, outcomeIs, refusalIs, replyIs};
 ghost use Rattle.replies.specs.Ends.{endIs};
 ghost use Rattle.text.specs.Lies.{Puts, farthest};
 ghost use Rattle.lines.specs.Lines.{lineIs};
-ghost use Rattle.lines.specs.Texts.{frontText, outcomeText, refusalText, replyText, placeText, headerText, endText, refusedText};
+ghost use Rattle.lines.specs.Texts.{frontText, contentText, outcomeText, refusalText, replyText, placeText, headerText, endText, refusedText};
 use replies::Answer;
+use replies::Content;
 use replies::End;
 use replies::Outcome;
 use replies::Refusal;
@@ -38,6 +39,21 @@ fn put_refusal(buffer: &mut [u8], at: usize, refusal: Refusal) -> usize
     put_number(buffer, named, replies::refusal_number(refusal))
 }
 
+// Puts what is shown of a cell.
+fn put_content(buffer: &mut [u8], at: usize, content: Content) -> usize
+    requires { ⌜ at ≤ farthest + 64 ⌝ }
+    ensures { λ r. ⌜ Puts (contentText (contentIs content)) at r (now (buffer .entry)) (now (buffer .exit)) ⌝ }
+    ensures { λ r. ⌜ r ≤ at + 18 ⌝ }
+{
+    match content {
+        Content::Unset => put_text(buffer, at, b"unset"),
+        Content::Value(value) => {
+            let named = put_text(buffer, at, b"value ");
+            put_number(buffer, named, value)
+        }
+    }
+}
+
 // Puts what a step came to.
 fn put_outcome(buffer: &mut [u8], at: usize, outcome: Outcome) -> usize
     requires { ⌜ at ≤ farthest + 64 ⌝ }
@@ -46,10 +62,7 @@ fn put_outcome(buffer: &mut [u8], at: usize, outcome: Outcome) -> usize
 {
     match outcome {
         Outcome::Done => put_text(buffer, at, b"ok"),
-        Outcome::Value(value) => {
-            let named = put_text(buffer, at, b"value ");
-            put_number(buffer, named, value)
-        }
+        Outcome::Shows(content) => put_content(buffer, at, content),
         Outcome::Committed => put_text(buffer, at, b"commit"),
         Outcome::Aborted(reason) => {
             let named = put_text(buffer, at, b"abort ");
@@ -134,12 +147,12 @@ pub fn put_cell(buffer: &mut [u8], at: usize, c: u32, end: End) -> usize
     ensures { λ r. ⌜ r ≤ at + 2 * longestLine ⌝ }
 {
     match end {
-        End::Cell { value, number } => {
+        End::Cell { content, number } => {
             let named = put_text(buffer, at, b"cell ");
             let counted = put_number(buffer, named, c);
-            let besides = put_text(buffer, counted, b" value ");
-            let valued = put_number(buffer, besides, value);
-            let behind = put_text(buffer, valued, b" number ");
+            let apart = put_text(buffer, counted, b" ");
+            let held = put_content(buffer, apart, content);
+            let behind = put_text(buffer, held, b" number ");
             let all = put_number(buffer, behind, number);
             put_text(buffer, all, b"\n")
         }

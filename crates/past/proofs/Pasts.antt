@@ -8,6 +8,7 @@ use mathlib.Core.Bool.{Bool, true, false, _||_}
 use mathlib.Core.List.{List, []}
 use lib.Dec.{leb}
 use borrow.Author.Tests.{leb-true, leb-false}
+use Rattle.rules.specs.steps.Figure.{versionShows}
 use Rattle.rules.specs.history.History.{Deed, Commit}
 use Rattle.rules.specs.history.Past.{InPast, before, UpTo, itself, behind, inPast, upTo, lastOf}
 use Rattle.rules.proofs.steps.Tables.{by, both-ways}
@@ -76,7 +77,7 @@ module _ (m : ℕ) (words : List ℕ) where
         ≡ upTo (commitsIn m words count) (sourcePlace source count) j || pastAfter count i deeds j
     unfolding lookOf sourcePlace
     look-adds zero c v deeds j = rw (upTo-opening m words count j)
-    look-adds (suc source) c v deeds j = ap (λ f. f j) (past-look (commitsIn m words count) i deeds c source v) ∙ by (leb source count)
+    look-adds (suc source) c v deeds j = ap (λ f. f j) (past-look (commitsIn m words count) i deeds c source (versionShows source v)) ∙ by (leb source count)
         (λ e. rw e)
         (λ e. rw (e, upTo-opening m words count j, upTo-outside m words count source j (leb-false source count e)))
 

@@ -1,5 +1,6 @@
--- Files in bytes, and what is printed of them, line by line: the published listing, a transaction that gives up, a file refused with 30,
--- one refused with 15, and order places refused with 11 and with 32. proofs/Listings.antt computes that the runner and the judge print just this.
+-- Files in bytes, and what is printed of them, line by line: the published listing, a transaction that gives up, a cell written as 0
+-- beside one never written, a file refused with 30, one refused with 15, and order places refused with 11 and with 32.
+-- proofs/Listings.antt computes that the runner and the judge print just this.
 use Prim.Native.Nat.{ℕ}
 use Prim.Native.String.{String}
 use mathlib.Core.List.{List, [], _∷_, _++_}
@@ -25,7 +26,7 @@ published = record {
       0 ∷ 64 ∷ 0 ∷ 0 ∷ 0 ∷ 5 ∷ 65 ∷ 0 ∷ 0 ∷ 0 ∷ 7 ∷ 1 ∷
       0 ∷ 0 ∷ 1 ∷ 1 ∷ 1 ∷ 1 ∷ 0 ∷ [];
   text = written (
-      "handlers 2 cells 2" ∷ "0 0 0 ok" ∷ "1 0 32 value 0" ∷ "2 1 0 ok" ∷ "3 1 64 ok" ∷ "4 1 65 ok" ∷ "5 1 1 commit" ∷
+      "handlers 2 cells 2" ∷ "0 0 0 ok" ∷ "1 0 32 unset" ∷ "2 1 0 ok" ∷ "3 1 64 ok" ∷ "4 1 65 ok" ∷ "5 1 1 commit" ∷
       "6 0 33 abort 1" ∷ "cell 0 value 5 number 1" ∷ "cell 1 value 7 number 1" ∷ []);
 }
 
@@ -34,7 +35,20 @@ unfoldable pub givenUp : Listing
 givenUp = record {
   file = 1 ∷ 1 ∷ 0 ∷ 10 ∷ 0 ∷ 8 ∷ 0 ∷ 18 ∷ 0 ∷ 4 ∷ 0 ∷ 64 ∷ 0 ∷ 0 ∷ 0 ∷ 7 ∷ 2 ∷ 2 ∷ 0 ∷ 0 ∷ 0 ∷ 0 ∷ [];
   text = written (
-      "handlers 1 cells 1" ∷ "0 0 0 ok" ∷ "1 0 64 ok" ∷ "2 0 2 abort 5" ∷ "3 0 2 refused 14" ∷ "cell 0 value 0 number 0" ∷ []);
+      "handlers 1 cells 1" ∷ "0 0 0 ok" ∷ "1 0 64 ok" ∷ "2 0 2 abort 5" ∷ "3 0 2 refused 14" ∷ "cell 0 unset number 0" ∷ []);
+}
+
+-- A handler that reads cell 1 twice, writes 0 := 0, reads its write and commits; then begins anew, reads cell 0 and gives up. Cell 0 holds the
+-- value 0, and cell 1 is unset.
+unfoldable pub calm : Listing
+calm = record {
+  file =
+      1 ∷ 2 ∷ 0 ∷ 10 ∷ 0 ∷ 13 ∷ 0 ∷ 23 ∷ 0 ∷ 9 ∷
+      0 ∷ 33 ∷ 33 ∷ 64 ∷ 0 ∷ 0 ∷ 0 ∷ 0 ∷ 32 ∷ 1 ∷ 0 ∷ 32 ∷ 2 ∷
+      0 ∷ 0 ∷ 0 ∷ 0 ∷ 0 ∷ 0 ∷ 0 ∷ 0 ∷ 0 ∷ [];
+  text = written (
+      "handlers 1 cells 2" ∷ "0 0 0 ok" ∷ "1 0 33 unset" ∷ "2 0 33 unset" ∷ "3 0 64 ok" ∷ "4 0 32 value 0" ∷ "5 0 1 commit" ∷
+      "6 0 0 ok" ∷ "7 0 32 value 0" ∷ "8 0 2 abort 5" ∷ "cell 0 value 0 number 1" ∷ "cell 1 unset number 0" ∷ []);
 }
 
 -- A file with no byte.
@@ -49,9 +63,9 @@ unknown = record { file = 1 ∷ 1 ∷ 0 ∷ 10 ∷ 0 ∷ 1 ∷ 0 ∷ 11 ∷ 0 �
 unfoldable pub unordered : Listing
 unordered = record {
   file = 1 ∷ 1 ∷ 0 ∷ 10 ∷ 0 ∷ 1 ∷ 0 ∷ 11 ∷ 0 ∷ 3 ∷ 0 ∷ 0 ∷ 1 ∷ 0 ∷ [];
-  text = written ("handlers 1 cells 1" ∷ "0 0 0 ok" ∷ "1 1 - refused 11" ∷ "2 0 - refused 32" ∷ "cell 0 value 0 number 0" ∷ []);
+  text = written ("handlers 1 cells 1" ∷ "0 0 0 ok" ∷ "1 1 - refused 11" ∷ "2 0 - refused 32" ∷ "cell 0 unset number 0" ∷ []);
 }
 
 -- All of them.
 unfoldable pub listings : List Listing
-listings = published ∷ givenUp ∷ empty ∷ unknown ∷ unordered ∷ []
+listings = published ∷ givenUp ∷ calm ∷ empty ∷ unknown ∷ unordered ∷ []

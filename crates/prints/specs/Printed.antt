@@ -12,7 +12,7 @@ use Rattle.lines.specs.Texts.{headerText, linesText, cellText, cellsText, refus
 use Rattle.runs.specs.ByRules.{Played, ran, runOf}
 use Rattle.agreement.specs.Agreement.{cutAfter, commitsAmong}
 
--- Each cell with its value and its own number.
+-- Each cell with what it holds and its own number.
 abbrev pub registerText : ℕ → Register ℕ → List ℕ
 registerText m register = cellsText m (λ c. cellText c (cellLine c (register .cells c)))
 

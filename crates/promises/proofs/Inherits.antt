@@ -1,10 +1,12 @@
 -- The third demand of words, proved: a run of words follows the rules, and the rules keep the demand.
 use Prim.Native.Nat.{ℕ, _+_, _<_}
 use native.Mathlib.Omega.{arith}
-use mathlib.Core.Path.{_≡_, sym, ap, _∙_}
+use mathlib.Core.Path.{_≡_, sym, ap, ap₂, _∙_}
 use mathlib.Core.List.{List}
 use lib.ListN.{getD}
+use Rattle.rules.specs.steps.Replies.{unset}
 use Rattle.rules.specs.steps.Register.{blank}
+use Rattle.rules.specs.steps.Figure.{versionShows, cellShows}
 use Rattle.rules.specs.history.History.{History}
 use Rattle.rules.specs.demand.Demand.{Ask, Consistent}
 use Rattle.rules.specs.demand.Judge.{Told}
@@ -13,7 +15,7 @@ use Rattle.layout.specs.Places.{bodyOf, cellStart, cellLong}
 use Rattle.layout.specs.View.{wordSetting, viewCell, view}
 use Rattle.layout.proofs.Rows.{part-at, below-inside, below-is}
 use Rattle.layout.proofs.ViewPour.{view-cell, view-confined}
-use Rattle.promises.specs.Inherits.{cellValues, numberWord, WordsConsistent, WordsInherit}
+use Rattle.promises.specs.Inherits.{numberWord, cellContents, WordsConsistent, WordsInherit}
 use Rattle.promises.specs.Runs.{WordRun}
 use Rattle.promises.proofs.Runs.{FollowsRules, rules-reply, run-follows}
 
@@ -28,11 +30,6 @@ module _ (m n : ℕ) (words : List ℕ) where
       ∙ sym (part-at (cellStart m x) (cellLong m) (bodyOf words) 0 (omega arith))
       ∙ ap (λ cell. cell .value) (sym (view-cell m n (bodyOf words) x inside))
 
-  -- The values that are read off the words are those of the register that the words say.
-  values-said : cellValues m words ≡ (λ x. view m n (bodyOf words) .cells x .value)
-  unfolding cellValues blank
-  values-said = below-is m 0 _ _ value-said (λ x beyond. ap (λ cell. cell .value) (view-confined m n (bodyOf words) .cells x beyond))
-
   -- A number that is read off the words is that of the register that the words say.
   pub number-said : (x y : ℕ) → x < m → y < m → numberWord m words x y ≡ view m n (bodyOf words) .cells x .numbers y
   unfolding viewCell
@@ -40,6 +37,13 @@ module _ (m n : ℕ) (words : List ℕ) where
       sym (part-at (cellStart m x) (cellLong m) (bodyOf words) (1 + y) (omega arith))
       ∙ sym (below-inside m 0 _ y below)
       ∙ ap (λ cell. cell .numbers y) (sym (view-cell m n (bodyOf words) x inside))
+
+  -- What is read off the words as what each cell holds is what the cells show of the register that the words say.
+  contents-said : cellContents m words ≡ (λ x. cellShows x (view m n (bodyOf words) .cells x))
+  unfolding cellContents versionShows blank
+  contents-said = below-is m unset _ _
+      (λ x inside. ap₂ versionShows (number-said x x inside inside) (value-said x inside))
+      (λ x beyond. ap (cellShows x) (view-confined m n (bodyOf words) .cells x beyond))
 
 -- ── What is inherited ─────────────────────────────────────────────────
 
@@ -55,7 +59,7 @@ module _ {m n : ℕ} {asks : List (Ask ℕ)} {words : List ℕ} {h : History ℕ
   -- So the words are consistent with the history.
   follows-consistent : WordsConsistent m n words h
   follows-consistent = record {
-    legal = rw (values-said m n words) (consistent .legal);
+    legal = rw (contents-said m n words) (consistent .legal);
     tornExactly = λ first p. rw (rules-reply follows p) (consistent .tornExactly _ _ _ _ first);
     replies = λ p. rules-reply follows p ∙ told .replies _ _ _;
     overtakenExactly = λ inside asks isOpen p. rw (rules-reply follows p) (told .overtakenExactly _ _ _ inside asks isOpen);
@@ -66,7 +70,7 @@ module _ {m n : ℕ} {asks : List (Ask ℕ)} {words : List ℕ} {h : History ℕ
 pub words-inherit : WordsInherit
 words-inherit m n asks words h ran = follows-consistent (run-follows ran)
 
--- After every run of words the history tells of each cell, as the words say it: its value is what all commits leave there, and its
+-- After every run of words the history tells of each cell, as the words say it: it shows what all commits leave there, and its
 -- own number is how many of them wrote it.
 pub words-told : {m n : ℕ} {asks : List (Ask ℕ)} {words : List ℕ} {h : History ℕ} → WordRun m n asks words h
     → (x : ℕ) → CellTold (wordSetting m) (view m n (bodyOf words)) h x

@@ -3,11 +3,11 @@
 use Prim.Native.Nat.{ℕ, _+_}
 use mathlib.Core.Path.{_≡_, sym, ap, _∙_}
 use mathlib.Core.List.{List}
-use Rattle.rules.specs.steps.Replies.{torn, Outcome, value, aborted, Reply}
+use Rattle.rules.specs.steps.Replies.{torn, Content, value, Outcome, shows, aborted, Reply}
 use Rattle.rules.specs.history.History.{History, writer}
 use Rattle.rules.specs.history.Past.{Tears}
 use Rattle.rules.specs.demand.Demand.{Ask, reportedTo, FirstRead}
-use Rattle.rules.proofs.steps.Properties.{value-no-abort}
+use Rattle.rules.proofs.steps.Properties.{shows-no-abort}
 use Rattle.rules.proofs.demand.ExactAborts.{outcomeIn}
 use Rattle.rules.proofs.demand.CaseHistories.{reached, Answered}
 use Rattle.rules.proofs.demand.CasesComputed.{k8, k8-answered, k10, k10-answered}
@@ -38,14 +38,14 @@ module _ {steps : List (Ask ℕ)} {x : ℕ} {words after : List ℕ} {h : Histor
       let replied = case-replied answered in
       (replied, words-inherit 2 4 steps words h ran .tornExactly (case-first answered) p .0 replied)
 
-  -- and one that is answered with a value does not.
-  case-value : {v : ℕ} → Answered steps x (value v) → (reply ≡ reportedTo 0 (32 + x) (value v)) × (TearsFor h 0 x → ⊥)
-  case-value {v} answered = (case-replied answered, whole)
+  -- and one that shows something does not.
+  case-shown : {v : Content ℕ} → Answered steps x (shows v) → (reply ≡ reportedTo 0 (32 + x) (shows v)) × (TearsFor h 0 x → ⊥)
+  case-shown {v} answered = (case-replied answered, whole)
     where
       whole : TearsFor h 0 x → ⊥
       whole tears =
           let torn-too = words-inherit 2 4 steps words h ran .tornExactly (case-first answered) p .1 tears in
-          value-no-abort v torn (ap outcomeIn (sym (case-replied answered) ∙ torn-too))
+          shows-no-abort v torn (ap outcomeIn (sym (case-replied answered) ∙ torn-too))
 
 module _ {words after : List ℕ} {h : History ℕ} {reply : Reply ℕ} where
   -- K8 of words: abort 1, and it tears.
@@ -55,5 +55,5 @@ module _ {words after : List ℕ} {h : History ℕ} {reply : Reply ℕ} where
 
   -- K10 of words: the value 6, and nothing tears.
   pub k10-of-words : WordRun 2 4 k10 words h → StepPromise words 0 33 0 reply after
-      → (reply ≡ reportedTo 0 33 (value 6)) × (TearsFor h 0 1 → ⊥)
-  k10-of-words ran p = case-value ran p k10-answered
+      → (reply ≡ reportedTo 0 33 (shows (value 6))) × (TearsFor h 0 1 → ⊥)
+  k10-of-words ran p = case-shown ran p k10-answered

@@ -7,7 +7,8 @@ use mathlib.Core.List.{List}
 use mathlib.Core.Logic.{_↔_}
 use lib.ListN.{getD}
 use Rattle.rules.specs.steps.Codes.{known, try, plainSheet}
-use Rattle.rules.specs.steps.Replies.{torn, overtaken, aborted, Reply}
+use Rattle.rules.specs.steps.Replies.{torn, overtaken, Content, unset, aborted, Reply}
+use Rattle.rules.specs.steps.Figure.{versionShows}
 use Rattle.rules.specs.history.History.{History, writer}
 use Rattle.rules.specs.history.Past.{Tears, upTo}
 use Rattle.rules.specs.history.Replay.{Legal}
@@ -19,18 +20,18 @@ use Rattle.layout.specs.View.{wordSetting}
 use Rattle.promises.specs.Stepping.{StepPromise}
 use Rattle.promises.specs.Runs.{WordRun}
 
--- The value of each of m cells, which is the first of the cell's words; 0 beyond the cells.
-unfoldable pub cellValues : ℕ → List ℕ → ℕ → ℕ
-cellValues m words = below m 0 (λ x. getD (bodyOf words) (cellStart m x) 0)
-
 -- The cell x's number for y, which stands behind the value.
 abbrev pub numberWord : ℕ → List ℕ → ℕ → ℕ → ℕ
 numberWord m words x y = getD (bodyOf words) (cellStart m x + (1 + y)) 0
 
+-- What each of m cells holds: nothing where its own number is 0, and else its value, the first of the cell's words; nothing beyond the cells.
+unfoldable pub cellContents : ℕ → List ℕ → ℕ → Content ℕ
+cellContents m words = below m unset (λ x. versionShows (numberWord m words x x) (getD (bodyOf words) (cellStart m x) 0))
+
 -- Words and a history agree with the third demand:
 pub record WordsConsistent (m n : ℕ) (words : List ℕ) (h : History ℕ) : Type 0 where
-  -- (a) and (b), with the cells' values as the table that the history leads to;
-  pub legal : Legal (wordSetting m) h (cellValues m words)
+  -- (a) and (b), with what the cells hold as the table that the history leads to;
+  pub legal : Legal h (cellContents m words)
   -- (c) a first read is answered abort 1 exactly when the writer of the cell's present value, or a commit in that writer's
   -- causal past, wrote a later version than one already read;
   pub tornExactly : {i code x v : ℕ} {reply : Reply ℕ} {after : List ℕ}

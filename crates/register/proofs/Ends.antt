@@ -1,6 +1,6 @@
 -- What is shown of a cell at the end, by the words.
 use Prim.Native.Nat.{ℕ, _+_, _≤_, _<_}
-use mathlib.Core.Path.{_≡_, refl, sym, ap, _∙_}
+use mathlib.Core.Path.{_≡_, refl, sym, ap, ap₂, _∙_}
 use mathlib.Core.Bool.{true, false}
 use mathlib.Core.List.{List}
 use mathlib.Core.Option.{none, some}
@@ -8,6 +8,8 @@ use native.Mathlib.Omega.{arith}
 use lib.ListN.{getD}
 use lib.Seq.{getD-drop}
 use borrow.Author.Tests.{lt-ltb, le-ltb}
+use Rattle.rules.specs.steps.Replies.{Content}
+use Rattle.rules.specs.steps.Figure.{versionShows}
 use Rattle.layout.specs.Places.{cellsOf, handlersOf, bodyOf, cellStart}
 use Rattle.layout.specs.View.{viewed}
 use Rattle.layout.specs.WellFormed.{isWellFormed}
@@ -26,12 +28,13 @@ module _ (words : List ℕ) (c : ℕ) where
     unfolding endOf
     end-beyond beyond = record { replied = rw (formed, le-ltb c (cellsOf words) beyond); left = refl }
 
-    -- A cell of the register shows its first word, and its own number behind it.
-    pub end-shown : {place start : ℕ} → c < cellsOf words → place ≡ cellStart (cellsOf words) c → start ≡ 2 + place
-        → EndPromise words c (some (record { value = getD words (start + 0) 0; number = getD words (start + 1 + c) 0 }))
+    -- A cell of the register shows what its first word is as a version of its own number, and that number.
+    pub end-shown : {place start : ℕ} {content : Content ℕ} → c < cellsOf words → place ≡ cellStart (cellsOf words) c → start ≡ 2 + place
+        → content ≡ versionShows (getD words (start + 1 + c) 0) (getD words (start + 0) 0)
+        → EndPromise words c (some (record { content = content; number = getD words (start + 1 + c) 0 }))
     unfolding endOf
-    end-shown {place} {start} inside placed starts = record {
-      replied = rw (formed, lt-ltb c (cellsOf words) inside) (λ i. some (record { value = value i; number = number i }));
+    end-shown {place} {start} {content} inside placed starts shows = record {
+      replied = rw (formed, lt-ltb c (cellsOf words) inside) (λ i. some (record { content = (shows ∙ ap₂ versionShows number value) i; number = number i }));
       left = refl;
     }
       where

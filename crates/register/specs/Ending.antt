@@ -1,4 +1,4 @@
--- What is shown of a cell at the end of a run: its value and its own number.
+-- What is shown of a cell at the end of a run: what it holds, and its own number.
 use Prim.Native.Nat.{ℕ}
 use mathlib.Core.Bool.{_&&_}
 use mathlib.Core.List.{List}

@@ -59,7 +59,7 @@ pub fn step(words: &mut [u32], handler: u32, code: u32, value: u32) -> Answer
     turns::step_formed(words, handler, code, value)
 }
 
-// A cell's value and own number.
+// What a cell holds, and its own number.
 pub fn cell_end(words: &[u32], c: u32) -> End
     ensures { λ r. ⌜ EndPromise (now (words .entry)) c (endIs r) ⌝ }
 {
@@ -73,8 +73,7 @@ pub fn cell_end(words: &[u32], c: u32) -> End
     let k = c as usize;
     let span = places::cell_at(m, k);
     let start = limits::FRONT + span.start;
-    End::Cell {
-        value: words[start + places::VALUE],
-        number: words[start + places::NUMBERS + k],
-    }
+    let number = words[start + places::NUMBERS + k];
+    let content = replies::version_shows(number, words[start + places::VALUE]);
+    End::Cell { content, number }
 }

@@ -8,8 +8,10 @@ use Rattle.rules.proofs.Determined.{Determined, determined}
 use Rattle.rules.proofs.steps.Numbers.{Injective, read-back}
 use Rattle.replies.specs.declared.Reason.{Reason}
 use Rattle.replies.specs.declared.Reason.the-variants.{Torn, Overtaken, Spent, GaveUp}
+use Rattle.replies.specs.declared.Content.{Content}
+use Rattle.replies.specs.declared.Content.the-variants.{Unset, Value}
 use Rattle.replies.specs.declared.Outcome.{Outcome}
-use Rattle.replies.specs.declared.Outcome.the-variants.{Done, Value, Committed, Aborted}
+use Rattle.replies.specs.declared.Outcome.the-variants.{Done, Shows, Committed, Aborted}
 use Rattle.replies.specs.declared.Refusal.{Refusal}
 use Rattle.replies.specs.declared.Refusal.the-variants.{NotWellFormed, NoHandler, NoCell, AlreadyOpen, NotOpen, UnknownStep}
 use Rattle.replies.specs.declared.Refusal.the-variants.{OutOfRange, TooShort, BadFile, UsedUp, TooManyCommits, SheetFull, NoRoom}
@@ -19,7 +21,7 @@ use Rattle.replies.specs.declared.Opened.{Opened}
 use Rattle.replies.specs.declared.Opened.the-variants.{Ready, Rejected}
 use Rattle.replies.specs.declared.End.{End}
 use Rattle.replies.specs.declared.End.the-variants.{Cell, Missing}
-use Rattle.replies.specs.Meaning.{reasonIs, outcomeIs, refusalIs, replyIs, openingIs}
+use Rattle.replies.specs.Meaning.{reasonIs, contentIs, outcomeIs, refusalIs, replyIs, openingIs}
 use Rattle.replies.specs.Ends.{CellLine, endIs}
 
 -- ── Reading back ──────────────────────────────────────────────────────
@@ -30,9 +32,13 @@ reasonBack Rules.overtaken = Overtaken
 reasonBack Rules.spent = Spent
 reasonBack Rules.gaveUp = GaveUp
 
+contentBack : Rules.Content ℕ → Content
+contentBack Rules.unset = Unset
+contentBack (Rules.value v) = Value v
+
 outcomeBack : Rules.Outcome ℕ → Outcome
 outcomeBack Rules.ok = Done
-outcomeBack (Rules.value v) = Value v
+outcomeBack (Rules.shows content) = Shows (contentBack content)
 outcomeBack Rules.committed = Committed
 outcomeBack (Rules.aborted reason) = Aborted (reasonBack reason)
 
@@ -60,7 +66,7 @@ openedBack Rules.ready = Ready
 openedBack (Rules.Opening.refused refusal) = Rejected (refusalBack refusal)
 
 endBack : Option CellLine → End
-endBack (some line) = Cell (line .value) (line .number)
+endBack (some line) = Cell (contentBack (line .content)) (line .number)
 endBack none = Missing
 
 -- ── What is read back is what was said ────────────────────────────────
@@ -72,10 +78,15 @@ reason-same Overtaken = refl
 reason-same Spent = refl
 reason-same GaveUp = refl
 
+content-same : (content : Content) → contentBack (contentIs content) ≡ content
+unfolding contentBack
+content-same Unset = refl
+content-same (Value v) = refl
+
 outcome-same : (outcome : Outcome) → outcomeBack (outcomeIs outcome) ≡ outcome
 unfolding outcomeBack
 outcome-same Done = refl
-outcome-same (Value v) = refl
+outcome-same (Shows content) = ap Shows (content-same content)
 outcome-same Committed = refl
 outcome-same (Aborted reason) = ap Aborted (reason-same reason)
 
@@ -107,10 +118,14 @@ opened-same (Rejected refusal) = ap Rejected (refusal-same refusal)
 
 end-same : (end : End) → endBack (endIs end) ≡ end
 unfolding endBack
-end-same (Cell value number) = refl
+end-same (Cell content number) = ap (λ shown. Cell shown number) (content-same content)
 end-same Missing = refl
 
 -- ── No two are the same ───────────────────────────────────────────────
+
+-- Different contents differ in the rules.
+pub contents-apart : Injective contentIs
+contents-apart = read-back contentIs contentBack content-same
 
 -- Different outcomes differ in the rules.
 pub outcomes-apart : Injective outcomeIs

@@ -4,8 +4,10 @@ use Prim.Native.Nat.{ℕ}
 use Rattle.rules.specs.steps.Replies as Rules
 use Rattle.replies.specs.declared.Reason.{Reason}
 use Rattle.replies.specs.declared.Reason.the-variants.{Torn, Overtaken, Spent, GaveUp}
+use Rattle.replies.specs.declared.Content.{Content}
+use Rattle.replies.specs.declared.Content.the-variants.{Unset, Value}
 use Rattle.replies.specs.declared.Outcome.{Outcome}
-use Rattle.replies.specs.declared.Outcome.the-variants.{Done, Value, Committed, Aborted}
+use Rattle.replies.specs.declared.Outcome.the-variants.{Done, Shows, Committed, Aborted}
 use Rattle.replies.specs.declared.Refusal.{Refusal}
 use Rattle.replies.specs.declared.Refusal.the-variants.{NotWellFormed, NoHandler, NoCell, AlreadyOpen, NotOpen, UnknownStep}
 use Rattle.replies.specs.declared.Refusal.the-variants.{OutOfRange, TooShort, BadFile, UsedUp, TooManyCommits, SheetFull, NoRoom}
@@ -22,10 +24,15 @@ reasonIs Overtaken = Rules.overtaken
 reasonIs Spent = Rules.spent
 reasonIs GaveUp = Rules.gaveUp
 
+-- The rules' content.
+abbrev pub contentIs : Content → Rules.Content ℕ
+contentIs Unset = Rules.unset
+contentIs (Value v) = Rules.value v
+
 -- The rules' outcome.
 abbrev pub outcomeIs : Outcome → Rules.Outcome ℕ
 outcomeIs Done = Rules.ok
-outcomeIs (Value v) = Rules.value v
+outcomeIs (Shows content) = Rules.shows (contentIs content)
 outcomeIs Committed = Rules.committed
 outcomeIs (Aborted reason) = Rules.aborted (reasonIs reason)
 

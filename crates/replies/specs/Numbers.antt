@@ -1,11 +1,22 @@
--- What is promised of numbers: those of reasons and refusals, and of an answer to a step. Each is the rules' own.
+-- What is promised of numbers: those of reasons and refusals, and of an answer to a step; and of what a version shows. Each is the rules' own.
 use Prim.Native.Nat.{ℕ}
 use Rattle.rules.specs.Promise.{Promise, answering}
 use Rattle.rules.specs.steps.Replies as Rules
 use Rattle.rules.specs.steps.Replies.{reasonNumber, refusalNumber, replyNumbers}
+use Rattle.rules.specs.steps.Figure.{versionShows}
 use Rattle.replies.specs.declared.Reason.{Reason}
 use Rattle.replies.specs.declared.Refusal.{Refusal}
 use Rattle.replies.specs.Meaning.{reasonIs, refusalIs}
+
+-- A version: its number, and its value.
+pub record Version : Type 0 where
+  pub number : ℕ
+  pub value : ℕ
+
+-- The promise of what a version shows.
+abbrev pub VersionPromise : ℕ → ℕ → Rules.Content ℕ → Type 0
+VersionPromise number value content =
+    Promise (answering (λ (version : Version). versionShows (version .number) (version .value))) (record { number = number; value = value }) content tt
 
 -- The promise of a reason's number.
 abbrev pub ReasonPromise : Reason → ℕ → Type 0

@@ -1,9 +1,9 @@
 // The replies of a register, as its callers see them: a report with an outcome with a reason, or a refusal; their numbers; and what is
 // shown of a cell at the end. PUBLIC: nothing here has a `requires`.
 ghost use mathlib.Core.Path.{_≡_};
-ghost use Rattle.rules.specs.steps.Replies.{outcomeNumbers};
-ghost use Rattle.replies.specs.Meaning.{outcomeIs, replyIs, numbersAre};
-ghost use Rattle.replies.specs.Numbers.{ReasonPromise, RefusalPromise, NumbersPromise};
+ghost use Rattle.rules.specs.steps.Replies.{contentNumbers, outcomeNumbers};
+ghost use Rattle.replies.specs.Meaning.{contentIs, outcomeIs, replyIs, numbersAre};
+ghost use Rattle.replies.specs.Numbers.{VersionPromise, ReasonPromise, RefusalPromise, NumbersPromise};
 
 // Why a transaction was aborted.
 pub enum Reason {
@@ -13,10 +13,16 @@ pub enum Reason {
     GaveUp,
 }
 
+// What is shown of a cell: nothing where it was never written, and else its value.
+pub enum Content {
+    Unset,
+    Value(u32),
+}
+
 // What a step that is taken comes to.
 pub enum Outcome {
     Done,
-    Value(u32),
+    Shows(Content),
     Committed,
     Aborted(Reason),
 }
@@ -58,7 +64,7 @@ pub enum Opened {
     Rejected(Refusal),
 }
 
-// An answer in numbers: its kind (0 ok, 1 value, 2 commit, 3 abort, 4 refused), and its value or number, 0 where there is none.
+// An answer in numbers: its kind (0 ok, 1 value, 2 commit, 3 abort, 4 refused, 5 unset), and its value or number, 0 where there is none.
 pub struct Numbers {
     pub kind: u32,
     pub detail: u32,
@@ -66,8 +72,19 @@ pub struct Numbers {
 
 // What is shown of a cell at the end, if there is such a cell.
 pub enum End {
-    Cell { value: u32, number: u32 },
+    Cell { content: Content, number: u32 },
     Missing,
+}
+
+// What a version of a number shows: the opening's, which has number 0, nothing.
+pub fn version_shows(number: u32, value: u32) -> Content
+    ensures { λ r. ⌜ VersionPromise number value (contentIs r) ⌝ }
+{
+    if number == 0 {
+        Content::Unset
+    } else {
+        Content::Value(value)
+    }
 }
 
 // The number of a reason.
@@ -103,16 +120,26 @@ pub fn refusal_number(refusal: Refusal) -> u32
     }
 }
 
+// What is shown of a cell, in numbers.
+fn content_numbers(content: Content) -> Numbers
+    ensures { λ r. ⌜ numbersAre r ≡ contentNumbers (contentIs content) ⌝ }
+{
+    match content {
+        Content::Unset => Numbers { kind: 5, detail: 0 },
+        Content::Value(value) => Numbers {
+            kind: 1,
+            detail: value,
+        },
+    }
+}
+
 // An outcome in numbers.
 fn outcome_numbers(outcome: Outcome) -> Numbers
     ensures { λ r. ⌜ numbersAre r ≡ outcomeNumbers (outcomeIs outcome) ⌝ }
 {
     match outcome {
         Outcome::Done => Numbers { kind: 0, detail: 0 },
-        Outcome::Value(value) => Numbers {
-            kind: 1,
-            detail: value,
-        },
+        Outcome::Shows(content) => content_numbers(content),
         Outcome::Committed => Numbers { kind: 2, detail: 0 },
         Outcome::Aborted(reason) => Numbers {
             kind: 3,

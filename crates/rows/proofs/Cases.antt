@@ -1,5 +1,6 @@
 -- Rows that an edit of one operand does not make wrong, computed by the definitions: a refused step in the middle is reported and the next
--- one is taken, a step cut short is none, words that are no register are refused before the first step, and 42 to the word.
+-- one is taken, a step cut short is none, words that are no register are refused before the first step, 42 to the word, and reads that
+-- are unset.
 use Prim.Native.Nat.{ℕ}
 use mathlib.Core.Path.{_≡_, refl}
 use mathlib.Core.List.{List, [], _∷_}
@@ -9,7 +10,8 @@ use Rattle.rules.specs.steps.Codes.{plainSheet}
 use Rattle.rules.specs.steps.Replies.{notWellFormed, noRoom}
 use Rattle.rules.specs.steps.Register.{withHandler, idle}
 use Rattle.rules.specs.steps.Checks.{firstHit, stepChecks, inRange}
-use Rattle.rules.specs.steps.Figure.{begun, stamped, stored, isOvertaken, isSpent, aborting, committing, unlessAborted, tryChecks, trying, step}
+use Rattle.rules.specs.steps.Figure.{joined, taken, wrote, versionShows, shown, stamped, stored, begun, isTorn, isOvertaken, isSpent}
+use Rattle.rules.specs.steps.Figure.{aborting, committing, unlessAborted, readChecks, tryChecks, firstRead, reading, trying, step}
 use Rattle.rules.specs.steps.Turn.{stepRefusal, turned, turn}
 use Rattle.layout.specs.Bits.{hasBit, mask}
 use Rattle.layout.specs.Rows.{row, rows, below}
@@ -66,3 +68,21 @@ pub one-too-few : rowing (threeSteps 0 (9 ∷ 9 ∷ 9 ∷ 9 ∷ 9 ∷ 9 ∷ 9 �
 unfolding rowing rowedBy rowChecks stepsIn firstHit everyBelow numbersFit isGoodBlock isGoodBody isWellFormed hasBit mask
     lowest orElse someBelow inRange
 one-too-few = refl
+
+-- Begin, two reads of a cell that was never written, a write of 0 and a read of it.
+abbrev readings : RowCall
+readings = record {
+  words = inPhase 0;
+  steps = 0 ∷ 0 ∷ 0 ∷ 0 ∷ 32 ∷ 0 ∷ 0 ∷ 32 ∷ 0 ∷ 0 ∷ 64 ∷ 0 ∷ 0 ∷ 32 ∷ 0 ∷ [];
+  reports = 9 ∷ 9 ∷ 9 ∷ 9 ∷ 9 ∷ 9 ∷ 9 ∷ 9 ∷ 9 ∷ 9 ∷ 9 ∷ 9 ∷ 9 ∷ 9 ∷ 9 ∷ 9 ∷ 9 ∷ 9 ∷ 9 ∷ 9 ∷ [];
+  place = 0;
+}
+
+-- Both reads are unset, which is kind 5; what it wrote itself is the value 0, which is kind 1.
+pub unset-reported : rowing readings .leaves .reports
+    ≡ 0 ∷ 0 ∷ 0 ∷ 0 ∷ 0 ∷ 32 ∷ 5 ∷ 0 ∷ 0 ∷ 32 ∷ 5 ∷ 0 ∷ 0 ∷ 64 ∷ 0 ∷ 0 ∷ 0 ∷ 32 ∷ 1 ∷ 0 ∷ []
+unfolding rowing rowedBy rowChecks stepsIn wordsAfter reportsOf turnOf stepWords
+    everyBelow numbersFit isGoodBlock isGoodBody isWellFormed viewCell viewHandler view pourCell pourHandler pour
+    hasBit mask row rows below put orElse lowest someBelow plainSheet withHandler idle firstHit stepChecks inRange
+    joined taken wrote versionShows shown begun isTorn unlessAborted readChecks firstRead reading step stepRefusal turned turn
+unset-reported = refl

@@ -48,7 +48,7 @@ pub fn step(player: Player, words: &mut [u32], handler: u32, code: u32, value: u
     }
 }
 
-// A cell's value and own number, as a player's words say them.
+// What a cell holds and its own number, as a player's words say them.
 pub fn cell_end(player: Player, words: &[u32], c: u32) -> End
     ensures { λ r. ⌜ PlayerEndPromise (playerIs player) (now (words .entry)) c (endIs r) ⌝ }
 {

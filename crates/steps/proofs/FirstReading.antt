@@ -7,10 +7,10 @@ use mathlib.Core.List.{List}
 use lib.ListN.{getD, take, drop}
 use borrow.Rule.Slice.PartMut.{putMid}
 use Rattle.rules.specs.steps.Codes.{read}
-use Rattle.rules.specs.steps.Replies.{torn, value, aborted}
+use Rattle.rules.specs.steps.Replies.{Content, torn, shows, aborted}
 use Rattle.rules.specs.steps.Tables.{someBelow}
 use Rattle.rules.specs.steps.Register.{Cell, Handler, Register, idle}
-use Rattle.rules.specs.steps.Figure.{isTorn}
+use Rattle.rules.specs.steps.Figure.{versionShows, isTorn}
 use Rattle.rules.proofs.steps.Searches.{some-same}
 use Rattle.layout.specs.Places.{cellStart, handlerStart, handlerLong, transactionFrom}
 use Rattle.layout.specs.View.{wordSetting, viewHandler, view, pourHandler}
@@ -75,13 +75,15 @@ module _ {m n i x : ℕ} {words : List ℕ} (first : Unread m n words i x) {star
     pub row-small : Small m (rowTable row)
     row-small = subst (Small m) (sym numbers) (view-bounded (seated .formed .good) .cells x (first .ready .cell))
 
-    -- With the cell joined at its own number, the body holds the rules' register.
-    pub read-takes : {last : List ℕ} → isTorn (wordSetting m) h c ≡ false
+    -- With the cell joined at its own number, the body holds the rules' register; what its version shows is replied.
+    pub read-takes : {content : Content ℕ} {last : List ℕ} → isTorn (wordSetting m) h c ≡ false
+        → content ≡ versionShows (getD words (start + 1 + x) 0) (getD words (start + 0) 0)
         → last ≡ pourHandler m (joinedWith (viewHandler m (take (to - from) (drop from words))) x (getD words (start + 0) 0) (rowTable row))
-        → Takes m n words i (read x) 0 (value (getD words (start + 0) 0)) (putMid from (to - from) words last)
-    read-takes whole joins =
+        → Takes m n words i (read x) 0 (shows content) (putMid from (to - from) words last)
+    read-takes whole same joins =
         lent-takes seated span (λ g. joinedWith g x (c .value) (c .numbers))
-        (first-read-taken m r i x 0 (first .unread) (first .unwritten) whole (view-confined m n words .handler i .readSet)) (ap value said)
+        (first-read-taken m r i x 0 (first .unread) (first .unwritten) whole (view-confined m n words .handler i .readSet))
+        (ap shows (same ∙ ap₂ versionShows (number-said n words (first .ready .cell) starts x (first .ready .cell)) said))
         (joins ∙ ap₂ (λ v table. pourHandler m (joinedWith (viewHandler m (take (to - from) (drop from words))) x v table)) said numbers)
       where
         said : getD words (start + 0) 0 ≡ c .value

@@ -1,34 +1,53 @@
--- A read by the rules: the local copy and nothing changed, or the first read with its outcome and its handler.
+-- A read by the rules: what is shown and nothing changed, or the first read with its outcome and its handler.
 use Prim.Native.Nat.{ℕ, max}
 use native.Mathlib.Omega.{arith}
-use mathlib.Core.Path.{_≡_, sym, ap, _∙_, fun-ext}
-use mathlib.Core.Bool.{true, false, _||_}
+use mathlib.Core.Path.{_≡_, sym, ap, ap₂, _∙_, fun-ext}
+use mathlib.Core.Bool.{true, false, _||_, or-true}
 use mathlib.Core.List.{List}
 use lib.Dec.{eqb, ltb}
 use borrow.Author.Tests.{eqb-true, eqb-false, le-ltb, ltb-true, ltb-false}
 use Rattle.rules.specs.steps.Codes.{read}
-use Rattle.rules.specs.steps.Replies.{torn, value, aborted}
+use Rattle.rules.specs.steps.Replies.{Content, torn, value, shows, aborted}
 use Rattle.rules.specs.steps.Tables.{if_then_else_, put}
 use Rattle.rules.specs.steps.Register.{Setting, Cell, Handler, Register, withHandler, idle}
 use Rattle.rules.specs.steps.Checks.{firstHit}
-use Rattle.rules.specs.steps.Figure.{joined, taken, shown, isTorn, aborting, unlessAborted, readChecks, firstRead, reading, step}
+use Rattle.rules.specs.steps.Figure.{joined, taken, versionShows, cellShows, shown}
+use Rattle.rules.specs.steps.Figure.{isTorn, aborting, unlessAborted, readChecks, firstRead, reading, step}
 use Rattle.rules.proofs.steps.Tables.{by, both-ways, SameFrom, some-false, put-here, put-other}
 use Rattle.rules.proofs.steps.Searches.{some-same}
+use Rattle.rules.proofs.steps.Steps.{taken-shows}
 use Rattle.layout.specs.View.{wordSetting, view}
 use Rattle.layout.specs.WellFormed.{GoodBody}
 use Rattle.layout.proofs.PourView.{pour-view}
 use Rattle.block.specs.Blocks.{joinedWith}
 use Rattle.steps.specs.Takes.{Takes}
 
--- A read of a cell that is in either set takes the copy and changes nothing.
-pub again-takes : {m n i x copy : ℕ} {body : List ℕ} → GoodBody m n body
-    → view m n body .handlers i .readSet x || view m n body .handlers i .writtenSet x ≡ true → copy ≡ view m n body .handlers i .copies x
-    → Takes m n body i (read x) 0 (value copy) body
-unfolding step reading shown
-again-takes good either same = record {
-  replied = ap value same ∙ rw either;
-  left = sym (pour-view good) ∙ rw either;
-}
+module _ {m n : ℕ} {body : List ℕ} (good : GoodBody m n body) where
+  -- The handlers.
+  abbrev handler : ℕ → Handler ℕ
+  handler = view m n body .handlers
+
+  -- A read of a cell that is in either set takes what is shown and changes nothing.
+  again-takes : {i x : ℕ} {content : Content ℕ} → handler i .readSet x || handler i .writtenSet x ≡ true → content ≡ shown (handler i) x
+      → Takes m n body i (read x) 0 (shows content) body
+  unfolding step reading
+  again-takes either same = record {
+    replied = ap shows same ∙ rw either;
+    left = sym (pour-view good) ∙ rw either;
+  }
+
+  -- A cell that it wrote shows the copy,
+  pub written-takes : {i x copy : ℕ} → handler i .writtenSet x ≡ true → copy ≡ handler i .copies x
+      → Takes m n body i (read x) 0 (shows (value copy)) body
+  unfolding shown
+  written-takes written same = again-takes (rw written (simp or-true)) (rw written (ap value same))
+
+  -- and one that it only read the version that it holds.
+  pub held-takes : {i x number copy : ℕ} {content : Content ℕ} → handler i .readSet x ≡ true → handler i .writtenSet x ≡ false
+      → content ≡ versionShows number copy → number ≡ handler i .transaction x → copy ≡ handler i .copies x
+      → Takes m n body i (read x) 0 (shows content) body
+  unfolding shown
+  held-takes wasRead unwritten same held copied = again-takes (rw wasRead) (rw unwritten (same ∙ ap₂ versionShows held copied))
 
 -- ── The first read ────────────────────────────────────────────────────
 
@@ -84,10 +103,11 @@ module _ (m : ℕ) (r : Register ℕ) (i x v : ℕ) (unread : r .handlers i .rea
   -- The first read of a cell that is not.
   pub first-read-taken : isTorn (wordSetting m) (r .handlers i) (r .cells x) ≡ false → SameFrom m false (r .handlers i .readSet)
       → step (wordSetting m) r i (read x) v ≡ record {
-        outcome = value (r .cells x .value);
+        outcome = shows (cellShows x (r .cells x));
         after = withHandler r i (joinedWith (r .handlers i) x (r .cells x .value) (r .cells x .numbers));
       }
-  unfolding step reading firstRead readChecks firstHit unlessAborted shown taken joined
+  unfolding step reading firstRead readChecks firstHit unlessAborted
   first-read-taken whole beyond =
-      rw (unread, unwritten, torn-before (wordSetting m) (r .handlers i) x (r .cells x) unread ∙ whole, put-here)
-      (ap (λ h. record { outcome = value (r .cells x .value); after = withHandler r i h }) (taken-is m (r .handlers i) x (r .cells x) whole beyond))
+      rw (unread, unwritten, torn-before (wordSetting m) (r .handlers i) x (r .cells x) unread ∙ whole)
+      (ap₂ (λ content h. record { outcome = shows content; after = withHandler r i h })
+      (taken-shows (r .handlers i) x (r .cells x) unwritten) (taken-is m (r .handlers i) x (r .cells x) whole beyond))

@@ -8,6 +8,7 @@ ghost use Rattle.replies.specs.Meaning.{outcomeIs};
 ghost use Rattle.steps.specs.Takes.{Seated, Ready, Unread, Takes};
 use places::block_at;
 use places::cell_at;
+use replies::Content;
 use replies::Outcome;
 use replies::Reason;
 
@@ -74,12 +75,13 @@ fn first_read(body: &mut [u32], m: usize, n: usize, i: usize, x: usize) -> Outco
         return Outcome::Aborted(Reason::Torn);
     }
     let value = body[first + places::VALUE];
+    let own = body[numbers + x];
     let row = words::copy_out(body, numbers, m);
     block::join(&mut body[start..end], m, x, value, &row);
-    Outcome::Value(value)
+    Outcome::Shows(replies::version_shows(own, value))
 }
 
-// A read of cell x: the local copy, if it is in either set, and else the first read.
+// A read of cell x: what it wrote itself, or what the version shows that it holds, and else the first read.
 pub fn read(body: &mut [u32], m: usize, n: usize, i: usize, x: usize) -> Outcome
     requires { ⌜ Ready m n (now body) i (Codes.read x) ⌝ }
     ensures { λ r. ⌜ Takes m n (now (body .entry)) i (Codes.read x) 0 (outcomeIs r) (now (body .exit)) ⌝ }
@@ -89,11 +91,12 @@ pub fn read(body: &mut [u32], m: usize, n: usize, i: usize, x: usize) -> Outcome
     let read = body[start + places::READ_SET];
     let written = body[start + places::WRITTEN_SET];
     let copies = start + places::copies(m);
-    if words::has(read, x) {
-        return Outcome::Value(body[copies + x]);
-    }
     if words::has(written, x) {
-        return Outcome::Value(body[copies + x]);
+        return Outcome::Shows(Content::Value(body[copies + x]));
+    }
+    if words::has(read, x) {
+        let number = body[start + places::transaction_numbers(m) + x];
+        return Outcome::Shows(replies::version_shows(number, body[copies + x]));
     }
     first_read(body, m, n, i, x)
 }

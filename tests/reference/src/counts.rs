@@ -1,8 +1,40 @@
 //! How often each kind of thing was met in a comparison, by its name. A comparison of random files that never met what it is for
 //! would show nothing.
-use crate::lines::Run;
+use crate::lines::{Line, Run};
 use crate::register::Reply;
-use std::collections::BTreeMap;
+use std::collections::{BTreeMap, BTreeSet};
+
+/// What files have to meet of reads and of cells at the end, so that unset and 0 are told apart in each.
+pub const READS: [&str; 9] =
+    ["unset", "unset again", "value", "value 0", "value 0 again", "own value 0", "cell unset", "cell value", "cell value 0"];
+
+/// The codes of what each handler's open transaction has read and written up to a line.
+#[derive(Default)]
+struct Had(BTreeMap<u8, BTreeSet<u8>>);
+
+impl Had {
+    /// The name of a line's reply; of a read also whether it came again, or was of the transaction's own write, and whether it is 0.
+    fn name(&mut self, line: &Line) -> String {
+        let had = self.0.entry(line.handler).or_default();
+        let Some(code) = line.code else { return line.reply.to_string() };
+        match line.reply {
+            Reply::Ok if code == 0 => had.clear(),
+            Reply::Ok => drop(had.insert(code)),
+            _ => (),
+        }
+        let what = match line.reply {
+            Reply::Value(0) => "value 0",
+            Reply::Value(_) => "value",
+            Reply::Unset => "unset",
+            reply => return reply.to_string(),
+        };
+        match (had.contains(&(code + 32)), had.insert(code)) {
+            (true, _) => format!("own {what}"),
+            (false, true) => what.into(),
+            (false, false) => format!("{what} again"),
+        }
+    }
+}
 
 /// How often each name was met.
 #[derive(Default)]
@@ -19,15 +51,26 @@ impl Counts {
         *self.0.entry(name.into()).or_default() += times;
     }
 
-    /// Notes what was answered: each reply, or the refusal of the file.
+    /// Notes what was answered: each reply and each cell at the end, or the refusal of the file.
     pub fn answers(&mut self, run: Result<&Run, &u32>) {
-        match run {
-            Err(number) => self.note(&format!("file refused {number}")),
-            Ok(run) => run.lines.iter().for_each(|line| match line.reply {
-                Reply::Value(_) => self.note("value"),
-                reply => self.note(&reply.to_string()),
-            }),
+        let run = match run {
+            Err(number) => return self.note(&format!("file refused {number}")),
+            Ok(run) => run,
+        };
+        let mut had = Had::default();
+        run.lines.iter().for_each(|line| self.note(&had.name(line)));
+        for cell in &run.left {
+            self.note(match cell.value {
+                None => "cell unset",
+                Some(0) => "cell value 0",
+                Some(_) => "cell value",
+            });
         }
+    }
+
+    /// All names that were met.
+    pub fn names(&self) -> Vec<&str> {
+        self.0.keys().map(String::as_str).collect()
     }
 
     /// How often a name was met.

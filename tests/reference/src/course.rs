@@ -57,7 +57,7 @@ impl Course {
         match reply {
             Reply::Ok => self.open[handler] = true,
             Reply::Commit | Reply::Abort(_) => self.open[handler] = false,
-            Reply::Value(_) | Reply::Refused(_) => (),
+            Reply::Value(_) | Reply::Unset | Reply::Refused(_) => (),
         }
         self.commits += usize::from(reply == Reply::Commit);
         reply

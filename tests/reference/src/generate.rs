@@ -49,59 +49,41 @@ pub fn sound(random: &mut Random) -> Vec<u8> {
 #[cfg(test)]
 mod tests {
     use super::*;
-    use crate::lines::Line;
-    use crate::register::Reply;
+    use crate::counts::Counts;
     use crate::runner::run;
-    use std::collections::{BTreeMap, BTreeSet};
-
-    /// How often each reply, a read of an own write and a repeated read stand in some lines.
-    fn count(lines: &[Line], counts: &mut BTreeMap<String, u32>) {
-        let mut had: BTreeMap<u8, BTreeSet<u8>> = BTreeMap::new();
-        for line in lines {
-            let had = had.entry(line.handler).or_default();
-            let what = match (line.code, line.reply) {
-                (Some(0), Reply::Ok) => {
-                    had.clear();
-                    "begin".into()
-                }
-                (Some(code), Reply::Ok) => {
-                    had.insert(code);
-                    "write".into()
-                }
-                (Some(code), Reply::Value(_)) if had.contains(&(code + 32)) => "own write read".into(),
-                (Some(code), Reply::Value(_)) if !had.insert(code) => "read again".into(),
-                (_, Reply::Value(_)) => "read".into(),
-                (_, reply) => reply.to_string(),
-            };
-            *counts.entry(what).or_default() += 1;
-        }
-    }
 
     #[test]
     fn sound_files_have_every_reply() {
         let mut random = Random::new(1);
-        let mut counts = BTreeMap::new();
+        let mut counts = Counts::default();
         for _ in 0..600 {
-            count(&run(&sound(&mut random)).unwrap().lines, &mut counts);
+            counts.answers(run(&sound(&mut random)).as_ref());
         }
         let all = [
             "abort 1",
             "abort 2",
             "abort 5",
-            "begin",
+            "cell unset",
+            "cell value",
+            "cell value 0",
             "commit",
-            "own write read",
-            "read",
-            "read again",
+            "ok",
+            "own value",
+            "own value 0",
             "refused 11",
             "refused 12",
             "refused 13",
             "refused 14",
             "refused 32",
-            "write",
+            "unset",
+            "unset again",
+            "value",
+            "value 0",
+            "value 0 again",
+            "value again",
         ];
-        assert_eq!(counts.keys().collect::<Vec<_>>(), all);
-        assert!(counts.values().all(|&times| times > 300), "{counts:?}");
+        assert_eq!(counts.names(), all);
+        assert!(all.iter().all(|name| counts.of(name) > 100), "{}", counts.shown());
     }
 
     #[test]

@@ -9,7 +9,7 @@ use std::collections::{BTreeMap, BTreeSet};
 /// The commits that are noted at most.
 pub const MOST: usize = 64;
 
-/// A version is told by the commit that wrote it, counted from 1. The value at opening was written by nobody.
+/// A version is told by the commit that wrote it, counted from 1. The opening's was written by nobody, and has no value: it is unset.
 const OPENING: usize = 0;
 
 /// A transaction: the version of each cell that it read from the cells, and the value of each cell that it wrote.
@@ -62,11 +62,11 @@ impl History {
         self.writers(cell).next_back().unwrap_or(OPENING)
     }
 
-    /// The value of a cell's version.
-    fn value(&self, cell: usize, version: usize) -> u32 {
+    /// The value of a cell's version: none of the opening's.
+    fn value(&self, cell: usize, version: usize) -> Option<u32> {
         match version {
-            OPENING => 0,
-            place => self.wrote(place, cell).expect("a version was written by its commit"),
+            OPENING => None,
+            place => Some(self.wrote(place, cell).expect("a version was written by its commit")),
         }
     }
 
@@ -143,8 +143,8 @@ impl History {
             }
             open.read.insert(cell, last);
         }
-        let value = self.value(cell, version.unwrap_or(last));
-        self.goes_on(handler, open, Reply::Value(value))
+        let reply = self.value(cell, version.unwrap_or(last)).map_or(Reply::Unset, Reply::Value);
+        self.goes_on(handler, open, reply)
     }
 
     /// A try: every version that was read has to be the last one still.
@@ -159,7 +159,7 @@ impl History {
         Reply::Commit
     }
 
-    /// Each cell with its last value, and how many commits wrote it.
+    /// Each cell with its last value, if it has one, and how many commits wrote it.
     fn left(&self) -> Vec<Cell> {
         let cell = |cell| Cell { value: self.value(cell, self.last_version(cell)), number: self.writers(cell).count() as u32 };
         (0..self.cells).map(cell).collect()
@@ -217,13 +217,13 @@ mod tests {
 
     /// Lines of some commits, then a cell.
     fn lines(commits: usize) -> String {
-        (0..commits).map(|place| format!("{place} 0 1 commit\n")).chain(["cell 0 value 0 number 0\n".into()]).collect()
+        (0..commits).map(|place| format!("{place} 0 1 commit\n")).chain(["cell 0 unset number 0\n".into()]).collect()
     }
 
     #[test]
     fn a_cut_stands_at_the_65th_commit() {
         assert_eq!(cut(&lines(64)), lines(64));
-        let kept = lines(64).replace("cell 0 value 0 number 0", "64 0 1 refused 33");
+        let kept = lines(64).replace("cell 0 unset number 0", "64 0 1 refused 33");
         assert_eq!(cut(&lines(65)), kept);
         assert_eq!(cut(&lines(70)), kept);
     }

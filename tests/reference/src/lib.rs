@@ -1,7 +1,7 @@
 //! The register in plain Rust with no dependencies, written from the rules of docs/RULES.md and not from the proved code: its words and
-//! steps, one by one and as a row, the schedule file and its run, and the judge, which works from the history; and the duty sheet, of
-//! which docs/ASSURANCE.md says how far it is independent. The proved programs are compared with them, word for word and line for line,
-//! on directed and on random schedules.
+//! steps, one by one and as a row, the schedule file and its run, the judge, which works from the history, and the duty sheet, which was
+//! written from the rules alone. The proved programs are compared with them, word for word and line for line, on directed and on random
+//! schedules.
 pub mod counts;
 pub mod course;
 pub mod directed;
@@ -16,6 +16,7 @@ pub mod program;
 #[path = "../../../rust/src/raw.rs"]
 pub mod proved;
 pub mod random;
+pub mod reads;
 pub mod register;
 pub mod registers;
 pub mod row;

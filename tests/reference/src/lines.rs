@@ -11,10 +11,10 @@ pub struct Line {
     pub reply: Reply,
 }
 
-/// A cell at the end of a run, with its own number.
+/// A cell at the end of a run, with its own number. A cell that no commit wrote has no value.
 #[derive(Clone, Copy, Debug, PartialEq, Eq)]
 pub struct Cell {
-    pub value: u32,
+    pub value: Option<u32>,
     pub number: u32,
 }
 
@@ -33,6 +33,7 @@ impl fmt::Display for Reply {
         match self {
             Reply::Ok => write!(out, "ok"),
             Reply::Value(value) => write!(out, "value {value}"),
+            Reply::Unset => write!(out, "unset"),
             Reply::Commit => write!(out, "commit"),
             Reply::Abort(reason) => write!(out, "abort {reason}"),
             Reply::Refused(number) => write!(out, "refused {number}"),
@@ -59,7 +60,10 @@ impl fmt::Display for Run {
             writeln!(out, "{place} {line}")?;
         }
         for (cell, Cell { value, number }) in self.left.iter().enumerate() {
-            writeln!(out, "cell {cell} value {value} number {number}")?;
+            match value {
+                Some(value) => writeln!(out, "cell {cell} value {value} number {number}")?,
+                None => writeln!(out, "cell {cell} unset number {number}")?,
+            }
         }
         Ok(())
     }

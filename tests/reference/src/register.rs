@@ -6,6 +6,7 @@
 pub enum Reply {
     Ok,
     Value(u32),
+    Unset,
     Commit,
     Abort(u32),
     Refused(u32),
@@ -20,6 +21,7 @@ impl Reply {
             Reply::Commit => (2, 0),
             Reply::Abort(reason) => (3, reason),
             Reply::Refused(number) => (4, number),
+            Reply::Unset => (5, 0),
         }
     }
 
@@ -178,11 +180,23 @@ impl Open<'_> {
         self.block[3 + m..].fill(0);
     }
 
-    /// Read: the copy of a cell that is in a set, or else a first read, which may abort.
+    /// What a read replies of a cell that the transaction has not written: its copy, or unset where it holds number 0 for it, whatever
+    /// the copy is.
+    fn found(&self, x: usize) -> Reply {
+        match self.block[3 + self.m + x] {
+            0 => Reply::Unset,
+            _ => Reply::Value(self.block[3 + 2 * self.m + x]),
+        }
+    }
+
+    /// Read: the copy of a cell that is in a set, or else a first read, which may abort. A cell with number 0 is unset, not 0.
     fn read(&mut self, x: usize) -> Reply {
         let m = self.m;
-        if self.is_read(x) || self.is_written(x) {
+        if self.is_written(x) {
             return Reply::Value(self.block[3 + 2 * m + x]);
+        }
+        if self.is_read(x) {
+            return self.found(x);
         }
         self.block[1] |= 1 << x;
         self.block[3 + m + x] = self.own_number(x);
@@ -197,9 +211,8 @@ impl Open<'_> {
                 self.block[3 + m + y] = self.block[3 + m + y].max(self.cell(x)[1 + y]);
             }
         }
-        let value = self.cell(x)[0];
-        self.block[3 + 2 * m + x] = value;
-        Reply::Value(value)
+        self.block[3 + 2 * m + x] = self.cell(x)[0];
+        self.found(x)
     }
 
     /// Write: the copy becomes the value.

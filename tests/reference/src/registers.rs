@@ -23,11 +23,20 @@ fn set(random: &mut Random, m: u32) -> u32 {
     }
 }
 
+/// A value or a copy, now and then 0. With number 0 beside it, 0 or not, a read has to find it unset.
+pub fn value(random: &mut Random) -> u32 {
+    if random.once_in(4) {
+        0
+    } else {
+        random.word()
+    }
+}
+
 /// Words of a well-formed register of m cells and n handlers, reachable or not, with words behind it.
 pub fn well_formed(random: &mut Random, m: u32, n: u32) -> Vec<u32> {
     let mut words = vec![m, n];
     for _ in 0..m {
-        words.push(random.word());
+        words.push(value(random));
         words.extend((0..m).map(|_| number(random)).collect::<Vec<_>>());
     }
     for _ in 0..n {
@@ -35,7 +44,7 @@ pub fn well_formed(random: &mut Random, m: u32, n: u32) -> Vec<u32> {
         words.push(set(random, m));
         words.push(set(random, m));
         words.extend((0..2 * m).map(|_| number(random)).collect::<Vec<_>>());
-        words.extend((0..m).map(|_| random.word()).collect::<Vec<_>>());
+        words.extend((0..m).map(|_| value(random)).collect::<Vec<_>>());
     }
     // Where a transaction is to have a chance to commit, its numbers are the cells' own.
     if random.once_in(2) {

@@ -56,7 +56,7 @@ mod tests {
     fn the_listing_in_one_call() {
         let (mut words, mut reports) = (fresh(), [9; 31]);
         assert_eq!(row(&mut words, &LISTING, &mut reports, 2), Ok(()));
-        let expected = [0, 0, 0, 0, 0, 32, 1, 0, 1, 0, 0, 0, 1, 64, 0, 0, 1, 65, 0, 0, 1, 1, 2, 0, 0, 33, 3, 1];
+        let expected = [0, 0, 0, 0, 0, 32, 5, 0, 1, 0, 0, 0, 1, 64, 0, 0, 1, 65, 0, 0, 1, 1, 2, 0, 0, 33, 3, 1];
         assert_eq!((&reports[..2], &reports[2..30], reports[30]), (&[9, 9][..], &expected[..], 9));
         assert_eq!(words[2..8], [5, 1, 1, 7, 1, 1]);
     }

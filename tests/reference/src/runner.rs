@@ -15,7 +15,8 @@ pub fn run(file: &[u8]) -> Result<Run, u32> {
     let lines = schedule.places().into_iter().map(&mut line).collect();
     let long = m as usize + 1;
     let cells = words[2..2 + m as usize * long].chunks(long).enumerate();
-    let left = cells.map(|(cell, words)| Cell { value: words[0], number: words[1 + cell] }).collect();
+    let cell = |value, number| Cell { value: (number > 0).then_some(value), number };
+    let left = cells.map(|(place, words)| cell(words[0], words[1 + place])).collect();
     Ok(Run { handlers: n, cells: m, lines, left })
 }
 
@@ -44,14 +45,14 @@ mod tests {
 
     #[test]
     fn the_published_listing() {
-        let expected = "handlers 2 cells 2\n0 0 0 ok\n1 0 32 value 0\n2 1 0 ok\n3 1 64 ok\n4 1 65 ok\n5 1 1 commit\n\
+        let expected = "handlers 2 cells 2\n0 0 0 ok\n1 0 32 unset\n2 1 0 ok\n3 1 64 ok\n4 1 65 ok\n5 1 1 commit\n\
                         6 0 33 abort 1\ncell 0 value 5 number 1\ncell 1 value 7 number 1\n";
         assert_eq!(of(LISTING), expected);
     }
 
     #[test]
     fn a_schedule_with_nothing_to_do() {
-        assert_eq!(of("01 01 000A 0000 000A 0000"), "handlers 1 cells 1\ncell 0 value 0 number 0\n");
+        assert_eq!(of("01 01 000A 0000 000A 0000"), "handlers 1 cells 1\ncell 0 unset number 0\n");
     }
 
     #[test]
@@ -83,7 +84,7 @@ mod tests {
 
     #[test]
     fn a_give_up_is_abort_5_and_keeps_nothing() {
-        let expected = ["0 0 ok", "0 64 ok", "0 2 abort 5", "0 2 refused 14", "0 0 ok", "0 32 value 0"];
+        let expected = ["0 0 ok", "0 64 ok", "0 2 abort 5", "0 2 refused 14", "0 0 ok", "0 32 unset"];
         assert_eq!(replies("01 01 000A 000A 0014 0006 00 40 00000009 02 02 00 20 00 00 00 00 00 00"), expected);
     }
 
@@ -95,9 +96,18 @@ mod tests {
 
     #[test]
     fn a_stale_read_is_abort_2_and_values_go_up_to_the_largest() {
-        let expected = ["0 0 ok", "0 32 value 0", "1 0 ok", "1 64 ok", "1 32 value 4294967295", "1 1 commit", "0 1 abort 2"];
+        let expected = ["0 0 ok", "0 32 unset", "1 0 ok", "1 64 ok", "1 32 value 4294967295", "1 1 commit", "0 1 abort 2"];
         let text = "02 01 000E 0003 0011 0008 0019 0007 00 20 01 00 40 FFFFFFFF 20 01 00 00 01 01 01 01 00";
         assert_eq!(replies(text), expected);
+    }
+
+    #[test]
+    fn a_cell_written_as_0_is_no_unset_one() {
+        let text = "01 02 000A 000D 0017 000A 00 40 00000000 20 01 00 20 21 21 01 00 00 00 00 00 00 00 00 00 00";
+        let expected =
+            "handlers 1 cells 2\n0 0 0 ok\n1 0 64 ok\n2 0 32 value 0\n3 0 1 commit\n4 0 0 ok\n5 0 32 value 0\n6 0 33 unset\n\
+                        7 0 33 unset\n8 0 1 commit\n9 0 - refused 32\ncell 0 value 0 number 1\ncell 1 unset number 0\n";
+        assert_eq!(of(text), expected);
     }
 
     #[test]

@@ -1,4 +1,4 @@
--- `judge::cell_end` meets its promise: the value of the cell's present version, and how many commits wrote it.
+-- `judge::cell_end` meets its promise: what the cell's present version shows, and how many commits wrote it.
 use mathlib.Core.Path.{sym, _∙_}
 use native.Mathlib.Omega.{arith}
 use borrow.Author.Needs.{needs}
@@ -26,4 +26,4 @@ cell-end-spec =
     (λ c κs. let kept = ledger (c .before .before .before) in omega (arith, kept .long, kept .range .cells, kept .few))
     (λ c κs. let kept = ledger (c .before .before .before .before) in omega (arith, kept .long, kept .range .cells, kept .few))
     (λ c. let kept = ledger (c .before .before .before .before .before) in
-    end-shown kept (omega arith) (c .present-value .ensures _ (omega arith)) (c .before .present-version .ensures .0 _ (omega arith) .1)))
+    end-shown kept (omega arith) (c .present-content .ensures _ (omega arith)) (c .before .present-version .ensures .0 _ (omega arith) .1)))

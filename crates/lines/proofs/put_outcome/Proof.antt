@@ -1,9 +1,7 @@
--- `lines::put_outcome` meets its contract: a word, and a value or a reason behind it.
-use mathlib.Core.Path.{sym, subst}
+-- `lines::put_outcome` meets its contract: a word, what is shown of a cell, or a word and a reason behind it.
 use native.Mathlib.Omega.{arith}
 use borrow.Author.Needs.{needs}
 use Rattle.text.proofs.Puts.{puts-both}
-use Rattle.lines.specs.Texts.{outcomeText}
 use Rattle.lines.proofs.put_outcome.Statement.{statement}
 use Rattle.lines.proofs.put_outcome.Tie as tie
 
@@ -15,8 +13,6 @@ put-outcome-spec =
     (λ c. search needs)
     (λ c κs. search needs)
     (λ c. search needs)
-    (λ c. search needs)
-    (λ c κs. search needs)
     (λ c κs. search needs)
     (λ c. search needs)
     (λ c. search needs)
@@ -29,17 +25,13 @@ put-outcome-spec =
     (λ c. search needs)
     (λ c. let put = c .before .before .put-text .ensures in (rw (c .before .before .before .before .before .enum-told .given .1) put, omega (arith, put .ends)))
     (λ c. search needs)
-    (λ c. let told = c .before .before in
-    let named = told .before .before .before .before in
-    let value = told .put-number .ensures in
-    let text = named .put-text2 .ensures in
-    (rw (named .before .before .before .before .outcome .given .1) (puts-both text (value .0)), omega (arith, text .ends, value .1)))
+    (λ c. let put = c .before .before .put-content .ensures in (rw (c .before .before .before .before .before .outcome .given .1) (put .0), put .1))
     (λ c. search needs)
-    (λ c. let put = c .before .before .put-text3 .ensures in (rw (c .before .before .before .before .before .enum-told2 .given .1) put, omega (arith, put .ends)))
+    (λ c. let put = c .before .before .put-text2 .ensures in (rw (c .before .before .before .before .before .enum-told2 .given .1) put, omega (arith, put .ends)))
     (λ c. search needs)
     (λ c. let told = c .before .before in
     let named = told .before .before .before .before .before in
-    let reason = rw (told .before .reason-number .ensures .replied) at (told .put-number2 .ensures .0) in (
-      rw (named .before .before .before .before .outcome2 .given .1) (puts-both (named .put-text4 .ensures) reason),
-      omega (arith, named .put-text4 .ensures .ends, told .put-number2 .ensures .1),
+    let reason = rw (told .before .reason-number .ensures .replied) at (told .put-number .ensures .0) in (
+      rw (named .before .before .before .before .outcome2 .given .1) (puts-both (named .put-text3 .ensures) reason),
+      omega (arith, named .put-text3 .ensures .ends, told .put-number .ensures .1),
     )))

@@ -1,4 +1,4 @@
--- `register::cell_end` meets its promise: the words behind the cell's place say its value and its numbers.
+-- `register::cell_end` meets its promise: the words behind the cell's place say its value and its numbers, and its own number what it shows.
 use Prim.Native.Nat.{_+_, _<_, _≤_}
 use mathlib.Core.Path.{_≡_, sym, _∙_}
 use mathlib.Core.Bool.{true}
@@ -58,15 +58,16 @@ cell-end-spec =
     -- where the cell lies
     (λ c κs. omega (arith, small (c .before), inside (c .before)))
     (λ c. omega (arith, small (found c)))
-    -- its value
-    (λ c. omega (arith, small (found c)))
-    (λ c. omega (arith, small (found c)))
-    (λ c. omega (arith, fits (found (c .before))))
     -- its number
+    (λ c. omega (arith, small (found c)))
+    (λ c. omega (arith, small (found c), inside (found c)))
+    (λ c. omega (arith, small (found c), inside (found c)))
+    (λ c. omega (arith, fits (found (c .before)), inside (found (c .before))))
+    -- its value
     (λ c. omega (arith, small (found (c .before))))
-    (λ c. omega (arith, small (found (c .before)), inside (found (c .before))))
-    (λ c. omega (arith, small (found (c .before)), inside (found (c .before))))
-    (λ c. omega (arith, fits (found (c .before .before)), inside (found (c .before .before))))
-    (λ c. let cell = c .before .before .before in
-    let else = found (c .before .before) in
-    end-shown _ _ (formed (else .before .before)) (inside else) (cell .cell-at .ensures .starts) (omega arith)))
+    (λ c. omega (arith, small (found (c .before))))
+    (λ c. omega (arith, fits (found (c .before .before))))
+    (λ c κs. search needs)
+    (λ c. let cell = c .before .before .before .before in
+    let else = found (c .before .before .before) in
+    end-shown _ _ (formed (else .before .before)) (inside else) (cell .cell-at .ensures .starts) (omega arith) (c .version-shows .ensures .replied)))

@@ -12,11 +12,13 @@ outcome-numbers-spec =
     (tie.spec
     (λ c. search needs)
     (λ c. search needs)
+    (λ c κs. search needs)
     (λ c. search needs)
     (λ c. search needs)
     (λ c κs. search needs)
     (λ c. ap (λ o. outcomeNumbers (outcomeIs o)) (sym (c .enum-told .given .1)))
-    (λ c. ap (λ o. outcomeNumbers (outcomeIs o)) (sym (c .before .outcome .given .1)))
+    (λ c. c .content-numbers .ensures
+    ∙ ap (λ o. outcomeNumbers (outcomeIs o)) (sym (c .before .before .outcome .given .1)))
     (λ c. ap (λ o. outcomeNumbers (outcomeIs o)) (sym (c .enum-told2 .given .1)))
     (λ c. ap (λ k. record { kind = 3; detail = k }) (c .reason-number .ensures .replied)
     ∙ ap (λ o. outcomeNumbers (outcomeIs o)) (sym (c .before .before .outcome2 .given .1))))

@@ -1,17 +1,30 @@
--- Cases K8 to K11 of docs/RULES.md, and what is in a causal past and what is not: histories and answers, all computed.
+-- Cases K8 to K11 of docs/RULES.md, what is shown, and what is in a causal past and what is not: histories and answers, all computed.
 use Prim.Native.Nat.{ℕ}
 use mathlib.Core.Path.{_≡_, refl}
 use mathlib.Core.Bool.{true, false}
 use mathlib.Core.List.{List, [], _∷_, _++_}
 use Rattle.rules.specs.steps.Tables.{put}
-use Rattle.rules.specs.steps.Replies.{torn, overtaken, value, aborted}
+use Rattle.rules.specs.steps.Replies.{torn, overtaken, unset, value, shows, aborted}
+use Rattle.rules.specs.steps.Figure.{cellShows}
 use Rattle.rules.specs.steps.Turn.{turn}
 use Rattle.rules.specs.history.History.{Deed, look, set, Commit, Abort, someLook, everyCommit}
 use Rattle.rules.specs.history.Past.{hasReadFrom, inPast, upTo}
 use Rattle.rules.specs.history.Replay.{after, replay}
 use Rattle.rules.specs.demand.Demand.{Ask, reportedTo}
-use Rattle.rules.proofs.demand.CaseHistories.{two, begins, tries, gives, reads, writes, reached, commitsAfter, answerTo, isFirst}
-use Rattle.rules.proofs.demand.CaseHistories.{Answered, overtakes}
+use Rattle.rules.proofs.demand.CaseHistories.{two, begins, tries, gives, reads, writes, reached, commitsAfter, replyTo, answerTo}
+use Rattle.rules.proofs.demand.CaseHistories.{isFirst, Answered, overtakes}
+
+-- ── What is shown ─────────────────────────────────────────────────────
+
+-- Cell 0 is written by now; handler 0, which reads it again, is still shown the version that it read, the opening's.
+pub overtakes-again : (replyTo overtakes 0 ≡ reportedTo 0 32 (shows unset)) × (answerTo overtakes 0 ≡ shows unset)
+unfolding reached answerTo overtakes
+overtakes-again = (refl, refl)
+
+-- The two cells then: a value, and nothing, which is not the 0 that the cell holds.
+pub overtakes-cells : (cellShows 0 (reached overtakes .register .cells 0) ≡ value 5) × (cellShows 1 (reached overtakes .register .cells 1) ≡ unset)
+unfolding reached overtakes
+overtakes-cells = (refl, refl)
 
 -- ── K8 ────────────────────────────────────────────────────────────────
 
@@ -22,7 +35,7 @@ k8 = overtakes ++ (begins 2 ∷ reads 2 0 ∷ writes 2 1 6 ∷ tries 2 ∷ [])
 
 -- Handler 2's commit drew on handler 1's.
 pub k8-commits : commitsAfter k8
-    ≡ record { handler = 2; deeds = set 1 6 ∷ look 0 1 5 ∷ [] } ∷ record { handler = 1; deeds = set 0 5 ∷ [] } ∷ []
+    ≡ record { handler = 2; deeds = set 1 6 ∷ look 0 1 (value 5) ∷ [] } ∷ record { handler = 1; deeds = set 0 5 ∷ [] } ∷ []
 unfolding reached k8
 k8-commits = refl
 
@@ -38,7 +51,7 @@ k8-answered = record { first = refl; reply = refl; judged = refl }
 
 -- The read that aborted its transaction is not among the deeds.
 pub k8-aborts : reached (k8 ++ (reads 0 1 ∷ [])) .history .aborts
-    ≡ record { handler = 0; deeds = look 0 0 0 ∷ []; stood = 2 } ∷ []
+    ≡ record { handler = 0; deeds = look 0 0 unset ∷ []; stood = 2 } ∷ []
 unfolding reached k8
 k8-aborts = refl
 
@@ -68,9 +81,14 @@ unfolding overtakes
 k10 = overtakes ++ (begins 2 ∷ writes 2 1 6 ∷ tries 2 ∷ [])
 
 -- Handler 0 is answered with that value.
-pub k10-answered : Answered k10 1 (value 6)
+pub k10-answered : Answered k10 1 (shows (value 6))
 unfolding isFirst reached answerTo k10
 k10-answered = record { first = refl; reply = refl; judged = refl }
+
+-- Cell 1 shows it, though its number for cell 0 is 0.
+pub k10-shows : cellShows 1 (reached k10 .register .cells 1) ≡ value 6
+unfolding reached k10
+k10-shows = refl
 
 -- K10 with that read.
 unfoldable pub k10-read : List (Ask ℕ)
@@ -98,7 +116,7 @@ k10-commits = record { handler = 2; deeds = set 1 6 ∷ [] } ∷ record { handle
 
 -- The transaction of handler 0 that was aborted.
 abbrev pub k10-aborted : Abort ℕ
-k10-aborted = record { handler = 0; deeds = look 1 2 6 ∷ look 0 0 0 ∷ []; stood = 2 }
+k10-aborted = record { handler = 0; deeds = look 1 2 (value 6) ∷ look 0 0 unset ∷ []; stood = 2 }
 
 -- That is the whole history of K10.
 pub k10-history : (commitsAfter k10-tried ≡ k10-commits) × (reached k10-tried .history .aborts ≡ k10-aborted ∷ [])
@@ -106,7 +124,7 @@ unfolding reached k10-tried
 k10-history = (refl, refl)
 
 -- All commits leave 5 in cell 0.
-pub k10-all : replay two k10-commits everyCommit 0 ≡ 5
+pub k10-all : replay k10-commits everyCommit 0 ≡ value 5
 unfolding replay after put
 k10-all = refl
 
@@ -149,7 +167,7 @@ readOnly = overtakes ++ (begins 2 ∷ reads 2 0 ∷ tries 2 ∷ begins 2 ∷ wri
 -- That is three commits.
 pub readOnly-commits : commitsAfter readOnly
     ≡ record { handler = 2; deeds = set 1 6 ∷ [] }
-    ∷ record { handler = 2; deeds = look 0 1 5 ∷ [] }
+    ∷ record { handler = 2; deeds = look 0 1 (value 5) ∷ [] }
     ∷ record { handler = 1; deeds = set 0 5 ∷ [] } ∷ []
 unfolding reached readOnly
 readOnly-commits = refl
@@ -184,7 +202,7 @@ abortedRead = overtakes
     ++ (begins 2 ∷ reads 2 0 ∷ begins 3 ∷ writes 3 0 9 ∷ tries 3 ∷ tries 2 ∷ begins 2 ∷ writes 2 1 6 ∷ tries 2 ∷ [])
 
 -- The aborted transaction had read handler 1's version.
-pub abortedRead-aborts : reached abortedRead .history .aborts ≡ record { handler = 2; deeds = look 0 1 5 ∷ []; stood = 2 } ∷ []
+pub abortedRead-aborts : reached abortedRead .history .aborts ≡ record { handler = 2; deeds = look 0 1 (value 5) ∷ []; stood = 2 } ∷ []
 unfolding reached abortedRead
 abortedRead-aborts = refl
 
@@ -194,7 +212,7 @@ unfolding reached abortedRead upTo inPast hasReadFrom
 abortedRead-past = refl
 
 -- Handler 0, which reads cell 1, is answered with its value.
-pub abortedRead-answered : Answered abortedRead 1 (value 6)
+pub abortedRead-answered : Answered abortedRead 1 (shows (value 6))
 unfolding isFirst reached answerTo abortedRead
 abortedRead-answered = record { first = refl; reply = refl; judged = refl }
 
@@ -204,7 +222,7 @@ unfolding overtakes
 givenUp = overtakes ++ (begins 2 ∷ reads 2 0 ∷ gives 2 ∷ begins 2 ∷ writes 2 1 6 ∷ tries 2 ∷ [])
 
 -- The transaction that gave up is aborted, and had read handler 1's version.
-pub givenUp-aborts : reached givenUp .history .aborts ≡ record { handler = 2; deeds = look 0 1 5 ∷ []; stood = 1 } ∷ []
+pub givenUp-aborts : reached givenUp .history .aborts ≡ record { handler = 2; deeds = look 0 1 (value 5) ∷ []; stood = 1 } ∷ []
 unfolding reached givenUp
 givenUp-aborts = refl
 
@@ -214,7 +232,7 @@ unfolding reached givenUp upTo inPast hasReadFrom
 givenUp-past = refl
 
 -- Handler 0, which reads cell 1, is answered with its value.
-pub givenUp-answered : Answered givenUp 1 (value 6)
+pub givenUp-answered : Answered givenUp 1 (shows (value 6))
 unfolding isFirst reached answerTo givenUp
 givenUp-answered = record { first = refl; reply = refl; judged = refl }
 
@@ -224,6 +242,6 @@ unfolding overtakes
 blind = overtakes ++ (begins 2 ∷ reads 2 0 ∷ writes 2 1 6 ∷ tries 2 ∷ begins 3 ∷ writes 3 1 7 ∷ tries 3 ∷ [])
 
 -- Handler 0, which reads cell 1, is answered with handler 3's value.
-pub blind-answered : Answered blind 1 (value 7)
+pub blind-answered : Answered blind 1 (shows (value 7))
 unfolding isFirst reached answerTo blind
 blind-answered = record { first = refl; reply = refl; judged = refl }

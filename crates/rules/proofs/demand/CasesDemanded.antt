@@ -1,5 +1,5 @@
--- The third demand instantiated on the cases that are computed: what is answered abort 1 tears, and what is answered with a value
--- does not; K10's aborted transaction has read what its past alone leaves; K11 is where ours differs from the source's legality.
+-- The third demand instantiated on the cases that are computed: what is answered abort 1 tears, and what shows something does
+-- not; K10's aborted transaction has read what its past alone leaves; K11 is where ours differs from the source's legality.
 use Prim.Native.Nat.{ℕ, zero, suc, _+_, _<_}
 use native.Mathlib.Omega.{arith}
 use mathlib.Core.Path.{_≡_, refl, sym, ap, _∙_, subst}
@@ -10,7 +10,7 @@ use lib.Dec.{ltb}
 use borrow.Author.Tests.{ltb-true, not-true}
 use Rattle.rules.specs.steps.Tables.{put}
 use Rattle.rules.specs.steps.Codes.{known, read, plainSheet}
-use Rattle.rules.specs.steps.Replies.{torn, overtaken, value, aborted}
+use Rattle.rules.specs.steps.Replies.{torn, overtaken, Content, unset, value, shows, aborted}
 use Rattle.rules.specs.steps.Turn.{turn}
 use Rattle.rules.specs.history.History.{Deed, look, again, History, hasRead, hasWritten, writer}
 use Rattle.rules.specs.history.Past.{Stands, last, older, Tears, inPast}
@@ -18,7 +18,7 @@ use Rattle.rules.specs.history.Replay.{after, firstOf, replay, Finds, Fr
 use Rattle.rules.specs.demand.Demand.{Ask, reportedTo, FirstRead}
 use Rattle.rules.specs.demand.Judge.{Overtaken}
 use Rattle.rules.proofs.steps.Tables.{and-left, and-right, or-left, or-right}
-use Rattle.rules.proofs.steps.Properties.{value-no-abort}
+use Rattle.rules.proofs.steps.Properties.{shows-no-abort}
 use Rattle.rules.proofs.demand.ExactAborts.{outcomeIn}
 use Rattle.rules.proofs.demand.ThirdDemand.{third-demand, history-tells}
 use Rattle.rules.proofs.demand.CaseHistories.{two, reached, commitsAfter, replyTo, isFirst, Answered}
@@ -80,10 +80,10 @@ demanded steps x e = unfold reached in (third-demand ℕ two 4 steps .tornExactl
 pub answered-torn : (steps : List (Ask ℕ)) (x : ℕ) → Answered steps x (aborted torn) → TearsAfter steps x
 answered-torn steps x a = demanded steps x (a .first) .0 (a .reply)
 
--- and one that is answered with a value does not.
-pub answered-value : (steps : List (Ask ℕ)) (x v : ℕ) → Answered steps x (value v) → TearsAfter steps x → ⊥
-answered-value steps x v a tears =
-    value-no-abort v torn (ap outcomeIn (sym (a .reply) ∙ demanded steps x (a .first) .1 tears))
+-- and one that shows something does not.
+pub answered-shown : (steps : List (Ask ℕ)) (x : ℕ) (v : Content ℕ) → Answered steps x (shows v) → TearsAfter steps x → ⊥
+answered-shown steps x v a tears =
+    shows-no-abort v torn (ap outcomeIn (sym (a .reply) ∙ demanded steps x (a .first) .1 tears))
 
 -- ── The cases ─────────────────────────────────────────────────────────
 
@@ -97,7 +97,7 @@ k9-tears = answered-torn k9 1 k9-answered
 
 -- K10: cell 0 was written anew by nobody in the writer's past.
 pub k10-holds : TearsAfter k10 1 → ⊥
-k10-holds = answered-value k10 1 6 k10-answered
+k10-holds = answered-shown k10 1 (value 6) k10-answered
 
 -- K11: the writer of cell 0 itself wrote cell 1 anew.
 pub k11-tears : TearsAfter k11 0
@@ -113,15 +113,15 @@ pastOfPast-tears = answered-torn pastOfPast 1 pastOfPast-answered
 
 -- An aborted transaction is in nobody's past.
 pub abortedRead-holds : TearsAfter abortedRead 1 → ⊥
-abortedRead-holds = answered-value abortedRead 1 6 abortedRead-answered
+abortedRead-holds = answered-shown abortedRead 1 (value 6) abortedRead-answered
 
 -- So is one that gave up.
 pub givenUp-holds : TearsAfter givenUp 1 → ⊥
-givenUp-holds = answered-value givenUp 1 6 givenUp-answered
+givenUp-holds = answered-shown givenUp 1 (value 6) givenUp-answered
 
 -- A blind overwrite hides a past.
 pub blind-holds : TearsAfter blind 1 → ⊥
-blind-holds = answered-value blind 1 7 blind-answered
+blind-holds = answered-shown blind 1 (value 7) blind-answered
 
 -- ── K10, tried ────────────────────────────────────────────────────────
 
@@ -134,34 +134,34 @@ k10-passed = told .0 k10-overtaken
     told = unfold reached plainSheet in (history-tells ℕ two 4 k10-read .overtakenExactly 0 1 0 (omega arith) refl k10-open)
 
 -- What the aborted transaction had read is what its past alone leaves,
-pub k10-from-past : FromPast two (firstOf 2 k10-commits) 0 (k10-aborted .deeds)
-k10-from-past = subst (λ commits. FromPast two (firstOf 2 commits) 0 (k10-aborted .deeds)) (k10-history .0)
+pub k10-from-past : FromPast (firstOf 2 k10-commits) 0 (k10-aborted .deeds)
+k10-from-past = subst (λ commits. FromPast (firstOf 2 commits) 0 (k10-aborted .deeds)) (k10-history .0)
     (unfold reached in (third-demand ℕ two 4 k10-tried .legal .aborted k10-aborted [] stands))
   where
     stands : Stands (reached k10-tried .history .aborts) k10-aborted []
     stands = rw (k10-history .1) last
 
--- which is 0 in cell 0, where all commits leave 5 (k10-all).
-pub k10-past : replay two k10-commits (inPast k10-commits 0 (k10-aborted .deeds)) 0 ≡ 0
+-- which is nothing in cell 0, where all commits leave 5 (k10-all).
+pub k10-past : replay k10-commits (inPast k10-commits 0 (k10-aborted .deeds)) 0 ≡ unset
 unfolding firstOf
-k10-past = k10-from-past .values 0 0 0 [] (older last)
+k10-past = k10-from-past .values 0 0 unset [] (older last)
 
 -- ── K11, in the other order ───────────────────────────────────────────
 
 -- The source's legality would have allowed K11's read: after the second commit and then the first, which are unordered
 -- (k11-unordered), handler 0 would find both values.
-pub k11-other-order : Finds (look 0 2 4 ∷ look 1 1 3 ∷ []) (after k11-first (after k11-second (λ _. 0)))
+pub k11-other-order : Finds (look 0 2 (value 4) ∷ look 1 1 (value 3) ∷ []) (after k11-first (after k11-second (λ _. unset)))
 unfolding after put
 k11-other-order = record { looks = looks; repeats = repeats }
   where
-    table : ℕ → ℕ
-    table = after k11-first (after k11-second (λ _. 0))
+    table : ℕ → Content ℕ
+    table = after k11-first (after k11-second (λ _. unset))
 
-    looks : (y source v : ℕ) (sooner : List (Deed ℕ)) → Stands (look 0 2 4 ∷ look 1 1 3 ∷ []) (look y source v) sooner
+    looks : (y source : ℕ) (v : Content ℕ) (sooner : List (Deed ℕ)) → Stands (look 0 2 (value 4) ∷ look 1 1 (value 3) ∷ []) (look y source v) sooner
         → after sooner table y ≡ v
     looks y source v sooner last = refl
     looks y source v sooner (older last) = refl
 
-    repeats : (y v : ℕ) (sooner : List (Deed ℕ)) → Stands (look 0 2 4 ∷ look 1 1 3 ∷ []) (again y v) sooner
+    repeats : (y : ℕ) (v : Content ℕ) (sooner : List (Deed ℕ)) → Stands (look 0 2 (value 4) ∷ look 1 1 (value 3) ∷ []) (again y v) sooner
         → after sooner table y ≡ v
     repeats y v sooner (older (older q)) = elim q [ ]

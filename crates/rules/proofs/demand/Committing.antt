@@ -7,8 +7,9 @@ use mathlib.Core.List.{List, [], _∷_}
 use lib.ListN.{length}
 use lib.Dec.{eqb}
 use borrow.Author.Tests.{eqb-true, not-false}
+use Rattle.rules.specs.steps.Replies.{value}
 use Rattle.rules.specs.steps.Register.{Setting, Handler, Register, withHandler, idle}
-use Rattle.rules.specs.steps.Figure.{stamped, stored, isOvertaken, aborting, committing}
+use Rattle.rules.specs.steps.Figure.{cellShows, shown, stamped, stored, isOvertaken, aborting, committing}
 use Rattle.rules.specs.history.History.{Deed, Commit, Abort, History, hasRead, hasWritten, placeAfter}
 use Rattle.rules.specs.history.History.{everyCommit, writer}
 use Rattle.rules.specs.history.History.{transaction, ended, noteCommit, noteAbort}
@@ -16,6 +17,7 @@ use Rattle.rules.specs.history.Past.{Stands, last, older, inPast, upTo, 
 use Rattle.rules.specs.history.Replay.{replay, Finds}
 use Rattle.rules.specs.demand.Judge.{versionCount, numberAmong}
 use Rattle.rules.proofs.steps.Tables.{by, some-false, put-three}
+use Rattle.rules.proofs.steps.Steps.{stored-shows}
 use Rattle.rules.proofs.history.Pasts.{past-none, past-other, lastOf-stood, lastOf-new, lastOf-other}
 use Rattle.rules.proofs.history.Versions.{number-skip, number-every, number-new, number-old, writer-new, writer-old, writer-stood}
 use Rattle.rules.proofs.history.Deeds.{EachRead, readFrom-none, read-there, Holds, copied-after, finds-all, after-kept}
@@ -50,7 +52,7 @@ module _ {W : Type 0} (S : Setting W) where
         wrote = wroteBy-old c commits source y stood ∙ saw .latest .wrote;
         number = number-old c commits source y stood ∙ saw .latest .number ∙ sym (number-kept y);
       };
-      value = ap (λ table. table y) (replay-old S c commits source stood) ∙ saw .value;
+      value = ap (λ table. table y) (replay-old c commits source stood) ∙ saw .value;
     }
       where
         saw : Seen S commits (inPast commits j deeds) y source v
@@ -89,10 +91,10 @@ module _ {W : Type 0} (S : Setting W) where
         (λ e. rw (c .writtenSet y ∙ e, e) (c .transaction refl y)))
 
     -- What it read is what the cells hold.
-    reads-hold : isOvertaken S r (r .handlers i) ≡ false → Holds (h .now i) (replay S (h .commits) everyCommit)
+    reads-hold : isOvertaken S r (r .handlers i) ≡ false → Holds (h .now i) (replay (h .commits) everyCommit)
     unfolding isOvertaken
     reads-hold current y source v sooner q =
-        same-value S (h .commits) everyCommit (upTo (h .commits) source) y same-number ∙ saw .value
+        same-value (h .commits) everyCommit (upTo (h .commits) source) y same-number ∙ saw .value
       where
         saw : Seen S (h .commits) (inPast (h .commits) i (h .now i)) y source v
         saw = c .seen y source v sooner q
@@ -115,17 +117,20 @@ module _ {W : Type 0} (S : Setting W) where
           saw .latest .number,
         )
 
-    -- Done after all earlier commits, it finds the values replied.
-    pub check-finds : isOvertaken S r (r .handlers i) ≡ false → Finds (h .now i) (replay S (h .commits) everyCommit)
-    check-finds current = finds-all S (h .now i) (replay S (h .commits) everyCommit) (reads-hold current) (c .sound)
+    -- Done after all earlier commits, it finds what was shown.
+    pub check-finds : isOvertaken S r (r .handlers i) ≡ false → Finds (h .now i) (replay (h .commits) everyCommit)
+    check-finds current = finds-all (h .now i) (replay (h .commits) everyCommit) (reads-hold current) (c .sound)
 
     -- What it wrote is what it leaves.
     pub check-leaves : isOvertaken S r (r .handlers i) ≡ false → (x : ℕ) → hasWritten (h .now i) x ≡ true
-        → r .handlers i .copies x ≡ replay S (transaction h i ∷ h .commits) everyCommit x
-    check-leaves current x e = c .copies x
-        ∙ sym (copied-after S (h .now i) (replay S (h .commits) everyCommit) x (reads-hold current) (c .sound)
-        (rw e (or-true (hasRead (h .now i) x))))
-        ∙ ap (λ table. table x) (sym (replay-every S (transaction h i) (h .commits)))
+        → value (r .handlers i .copies x) ≡ replay (transaction h i ∷ h .commits) everyCommit x
+    unfolding shown
+    check-leaves current x e = rw (c .writtenSet x ∙ e) at (c .copies x accessed)
+        ∙ sym (copied-after (h .now i) (replay (h .commits) everyCommit) x (reads-hold current) (c .sound) accessed)
+        ∙ ap (λ table. table x) (sym (replay-every (transaction h i) (h .commits)))
+      where
+        accessed : hasRead (h .now i) x || hasWritten (h .now i) x ≡ true
+        accessed = rw e (or-true (hasRead (h .now i) x))
 
   -- ── The whole register ──────────────────────────────────────────────
 
@@ -150,7 +155,7 @@ module _ {W : Type 0} (S : Setting W) where
         newest : Abort W
         newest = record { handler = i; deeds = h .now i; stood = length (h .commits) }
 
-        one-more : (a : Abort W) (earlier : List (Abort W)) → Stands (newest ∷ h .aborts) a earlier → StoodBy S (h .commits) a
+        one-more : (a : Abort W) (earlier : List (Abort W)) → Stands (newest ∷ h .aborts) a earlier → StoodBy (h .commits) a
         one-more a earlier last =
             (omega arith, rw (first-all (h .commits)) (from-past S (h .commits) i (h .now i) (g .handlers i .seen)))
         one-more a earlier (older q) = g .aborts a earlier q
@@ -174,15 +179,15 @@ module _ {W : Type 0} (S : Setting W) where
           (g .numbers x y
           ∙ sym (number-old (transaction h i) (h .commits) (writer (h .commits) x) y (writer-stood (h .commits) x))))
 
-      -- The cells' values after the commit: what it wrote, or what stood.
+      -- What the cells show after the commit: what it wrote, or what stood.
       commit-values : isOvertaken S r (r .handlers i) ≡ false → (x : ℕ)
-          → stored r (r .handlers i) x .value ≡ replay S grown everyCommit x
+          → cellShows x (stored r (r .handlers i) x) ≡ replay grown everyCommit x
       unfolding stored
       commit-values current x = by (hasWritten (h .now i) x)
-          (λ e. rw (held .writtenSet x ∙ e) (check-leaves r h i held own current x e))
+          (λ e. stored-shows r (r .handlers i) x (held .writtenSet x ∙ e) ∙ check-leaves r h i held own current x e)
           (λ e. rw (held .writtenSet x ∙ e) (g .values x
-          ∙ sym (after-kept (h .now i) (replay S (h .commits) everyCommit) x e)
-          ∙ ap (λ table. table x) (sym (replay-every S (transaction h i) (h .commits)))))
+          ∙ sym (after-kept (h .now i) (replay (h .commits) everyCommit) x e)
+          ∙ ap (λ table. table x) (sym (replay-every (transaction h i) (h .commits)))))
 
       -- A commit that is not overtaken keeps the invariant.
       pub commit-invariant : isOvertaken S r (r .handlers i) ≡ false

@@ -7,7 +7,7 @@ use mathlib.Core.List.{List, [], _∷_}
 use mathlib.Core.Logic.{_↔_, Iff·trans}
 use Rattle.rules.specs.steps.Tables.{someBelow}
 use Rattle.rules.specs.steps.Codes.{Step, try, read, known}
-use Rattle.rules.specs.steps.Replies.{Reason, torn, overtaken, spent, Outcome, ok, value, committed, aborted, Reply, reported}
+use Rattle.rules.specs.steps.Replies.{Reason, torn, overtaken, spent, Content, Outcome, ok, shows, committed, aborted, Reply, reported}
 use Rattle.rules.specs.steps.Register.{Setting, Register}
 use Rattle.rules.specs.steps.Checks.{Check, _when_, firstHit}
 use Rattle.rules.specs.steps.Given.{Within, phaseFor, Free}
@@ -17,7 +17,7 @@ use Rattle.rules.specs.history.Past.{Tears, tears}
 use Rattle.rules.specs.history.Replay.{replay}
 use Rattle.rules.specs.demand.Demand.{reportedTo, FirstRead}
 use Rattle.rules.specs.demand.Judge.{stale, full, orAborted, answerRead, answerTry, answer, askedByHistory, Overtaken}
-use Rattle.rules.proofs.steps.Properties.{commit-no-abort, value-no-abort}
+use Rattle.rules.proofs.steps.Properties.{commit-no-abort, shows-no-abort}
 use Rattle.rules.proofs.history.Deeds.{EachRead}
 use Rattle.rules.proofs.history.Computed.{tears-is, stale-is}
 use Rattle.rules.proofs.demand.Invariant.{Invariant}
@@ -32,10 +32,10 @@ module _ {W : Type 0} where
   abort-exactly reason true checks outcome other = ((λ e. refl), (λ e. refl))
   abort-exactly reason false checks outcome other = ((λ e. absurd (other e)), (λ e. absurd (false≢true e)))
 
-  -- A read that is not torn gives a value.
-  not-torn : (v : W) → orAborted (firstHit []) (value v) ≡ aborted torn → ⊥
+  -- A read that is not torn shows something.
+  not-torn : (v : Content W) → orAborted (firstHit []) (shows v) ≡ aborted torn → ⊥
   unfolding firstHit orAborted
-  not-torn v e = value-no-abort v torn e
+  not-torn v e = shows-no-abort v torn e
 
   -- A try that is not overtaken is spent or committed.
   not-overtaken : (isFull : Bool)
@@ -82,11 +82,11 @@ module _ {W : Type 0} (S : Setting W) (n : ℕ) (r : Register W) (h : History W)
       isTorn : Bool
       isTorn = tears (S .cellCount) (h .commits) (h .now i) (writer (h .commits) x)
 
-      present : W
-      present = replay S (h .commits) everyCommit x
+      present : Content W
+      present = replay (h .commits) everyCommit x
 
       by-check : (answer S h i (read x) ≡ aborted torn) ↔ (isTorn ≡ true)
-      by-check = rw (f .unread, f .unwritten) (abort-exactly torn isTorn [] (value present) (not-torn present))
+      by-check = rw (f .unread, f .unwritten) (abort-exactly torn isTorn [] (shows present) (not-torn present))
 
   -- Abort 2: exactly when a version read is no longer the present one.
   pub overtaken-exactly : i < n → S .sheet code ≡ known try → h .opened i ≡ true

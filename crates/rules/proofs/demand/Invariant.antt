@@ -9,8 +9,9 @@ use lib.ListN.{length}
 use lib.Dec.{eqb}
 use borrow.Author.Tests.{eqb-true}
 use Rattle.rules.specs.steps.Tables.{put}
+use Rattle.rules.specs.steps.Replies.{Content}
 use Rattle.rules.specs.steps.Register.{hasOpen, Setting, Handler, Register, withHandler, noCells, zeros, idle, blank, fresh}
-use Rattle.rules.specs.steps.Figure.{begun, wrote}
+use Rattle.rules.specs.steps.Figure.{begun, wrote, versionShows, cellShows, shown}
 use Rattle.rules.specs.history.History.{Deed, again, set, Commit, Abort, History, hasRead, hasWritten, someLook}
 use Rattle.rules.specs.history.History.{everyCommit, writer}
 use Rattle.rules.specs.history.History.{noHistory, doing}
@@ -26,13 +27,13 @@ use Rattle.rules.proofs.history.Replays.{same-value}
 
 -- ── The invariant ─────────────────────────────────────────────────────
 
--- A read of y in the version that the source wrote: y is a cell, no commit of the set wrote a later version, and the value is
--- what the source with its past leaves there.
-pub record Seen {W : Type 0} (S : Setting W) (commits : List (Commit W)) (included : ℕ → Bool) (y source : ℕ) (v : W)
+-- A read of y in the version that the source wrote: y is a cell, no commit of the set wrote a later version, and what was shown
+-- is what the source with its past leaves there.
+pub record Seen {W : Type 0} (S : Setting W) (commits : List (Commit W)) (included : ℕ → Bool) (y source : ℕ) (v : Content W)
     : Type 0 where
   pub inside : y < S .cellCount
   pub latest : Latest commits included y source
-  pub value : replay S commits (upTo commits source) y ≡ v
+  pub value : replay commits (upTo commits source) y ≡ v
 
 -- What handler i holds, whose transaction is open or not and has done these deeds.
 pub record Carries {W : Type 0} (S : Setting W) (commits : List (Commit W)) (i : ℕ) (isOpen : Bool) (deeds : List (Deed W))
@@ -40,26 +41,27 @@ pub record Carries {W : Type 0} (S : Setting W) (commits : List (Commit W)) (i :
   pub opened : hasOpen h ≡ isOpen
   pub readSet : (y : ℕ) → h .readSet y ≡ hasRead deeds y
   pub writtenSet : (y : ℕ) → h .writtenSet y ≡ hasWritten deeds y
-  pub copies : (y : ℕ) → h .copies y ≡ copied S deeds y
+  -- a cell that it has read or written is shown as its deeds left the copy,
+  pub copies : (y : ℕ) → hasRead deeds y || hasWritten deeds y ≡ true → shown h y ≡ copied deeds y
   -- its numbers are those of its last commit with that one's past,
   pub numbers : (y : ℕ) → h .numbers y ≡ numberAmong commits (upTo commits (lastOf commits i)) y
   -- and the transaction's are those of its causal past
   pub transaction : isOpen ≡ true → (y : ℕ) → h .transaction y ≡ numberAmong commits (inPast commits i deeds) y
   pub inside : (y : ℕ) → hasWritten deeds y ≡ true → y < S .cellCount
   pub seen : EachRead (Seen S commits (inPast commits i deeds)) deeds
-  pub sound : Sound S deeds
+  pub sound : Sound deeds
 
 -- An aborted transaction read what its causal past left, after the commits that stood then.
-abbrev pub StoodBy : {W : Type 0} → Setting W → List (Commit W) → Abort W → Type 0
-StoodBy S commits a = (a .stood ≤ length commits) × FromPast S (firstOf (a .stood) commits) (a .handler) (a .deeds)
+abbrev pub StoodBy : {W : Type 0} → List (Commit W) → Abort W → Type 0
+StoodBy commits a = (a .stood ≤ length commits) × FromPast (firstOf (a .stood) commits) (a .handler) (a .deeds)
 
 -- A register, and the history that led there.
 pub record Invariant {W : Type 0} (S : Setting W) (r : Register W) (h : History W) : Type 0 where
-  -- a cell's numbers are those of its writer with that one's past, and its value is what all commits leave
+  -- a cell's numbers are those of its writer with that one's past, and it shows what all commits leave
   pub numbers : (x y : ℕ) → r .cells x .numbers y ≡ numberAmong (h .commits) (upTo (h .commits) (writer (h .commits) x)) y
-  pub values : (x : ℕ) → r .cells x .value ≡ replay S (h .commits) everyCommit x
+  pub values : (x : ℕ) → cellShows x (r .cells x) ≡ replay (h .commits) everyCommit x
   pub handlers : (i : ℕ) → Carries S (h .commits) i (h .opened i) (h .now i) (r .handlers i)
-  pub aborts : (a : Abort W) (earlier : List (Abort W)) → Stands (h .aborts) a earlier → StoodBy S (h .commits) a
+  pub aborts : (a : Abort W) (earlier : List (Abort W)) → Stands (h .aborts) a earlier → StoodBy (h .commits) a
 
 module _ {W : Type 0} (S : Setting W) where
   -- A cell's own number is the number of its versions.
@@ -69,10 +71,10 @@ module _ {W : Type 0} (S : Setting W) where
 
   -- What was seen is what the past alone leaves.
   pub from-past : (commits : List (Commit W)) (i : ℕ) (deeds : List (Deed W))
-      → EachRead (Seen S commits (inPast commits i deeds)) deeds → FromPast S commits i deeds
+      → EachRead (Seen S commits (inPast commits i deeds)) deeds → FromPast commits i deeds
   from-past commits i deeds seen = record {
     values = λ y source v sooner q. let saw = seen y source v sooner q in
-        sym (same-value S commits (upTo commits source) (inPast commits i deeds) y (saw .latest .number)) ∙ saw .value;
+        sym (same-value commits (upTo commits source) (inPast commits i deeds) y (saw .latest .number)) ∙ saw .value;
     versions = λ y source v sooner q. latest-writer commits (inPast commits i deeds) y source (seen y source v sooner q .latest);
   }
 
@@ -91,17 +93,17 @@ module _ {W : Type 0} (S : Setting W) where
           transaction = transaction;
           copies = λ _. S .empty;
         })
-    unfolding hasRead someLook hasWritten copied
+    unfolding hasRead someLook hasWritten
     cleared phase numbers transaction known reached = record {
       opened = refl;
       readSet = λ y. refl;
       writtenSet = λ y. refl;
-      copies = λ y. refl;
+      copies = λ y e. absurd (false≢true e);
       numbers = known;
       transaction = reached;
       inside = λ y e. absurd (false≢true e);
       seen = each-none (Seen S commits (inPast commits i []));
-      sound = sound-none S;
+      sound = sound-none;
     }
 
     -- An idle block, with the numbers of the handler's last commit.
@@ -120,32 +122,32 @@ module _ {W : Type 0} (S : Setting W) where
     -- A write: the past stays as it was.
     pub wrote-carries : (deeds : List (Deed W)) (h : Handler W) (x : ℕ) (v : W) → x < S .cellCount
         → Carries S commits i true deeds h → Carries S commits i true (set x v ∷ deeds) (wrote h x v)
-    unfolding wrote hasRead someLook hasWritten copied put
+    unfolding wrote shown hasRead someLook hasWritten copied put
     wrote-carries deeds h x v inside c = record {
       opened = refl;
       readSet = c .readSet;
       writtenSet = λ y. by (eqb y x) (λ e. rw e) (λ e. rw e (c .writtenSet y));
-      copies = λ y. by (eqb y x) (λ e. rw e) (λ e. rw e (c .copies y));
+      copies = λ y accessed. by (eqb y x) (λ e. rw e) (λ e. rw e (c .copies y (rw e at accessed)));
       numbers = c .numbers;
       transaction = λ e y. rw (past-set commits i deeds x v) (c .transaction e y);
       inside = λ y e. by (eqb y x) (λ q. omega (arith, eqb-true y x q)) (λ q. c .inside y (rw q at e));
       seen = rw (past-set commits i deeds x v) (each-set x v deeds (c .seen));
-      sound = sound-new S (set x v) deeds tt (c .sound);
+      sound = sound-new (set x v) deeds tt (c .sound);
     }
 
     -- A read answered from the copy: the past stays as it was.
     pub again-carries : (deeds : List (Deed W)) (h : Handler W) (x : ℕ) → hasRead deeds x || hasWritten deeds x ≡ true
-        → Carries S commits i true deeds h → Carries S commits i true (again x (h .copies x) ∷ deeds) h
+        → Carries S commits i true deeds h → Carries S commits i true (again x (shown h x) ∷ deeds) h
     again-carries deeds h x copy c = record {
       opened = c .opened;
       readSet = λ y. unfold hasRead someLook in (c .readSet y);
       writtenSet = λ y. unfold hasWritten in (c .writtenSet y);
-      copies = λ y. unfold copied in (c .copies y);
+      copies = λ y accessed. unfold copied in (c .copies y (unfold hasRead someLook hasWritten in accessed));
       numbers = c .numbers;
-      transaction = λ e y. rw (past-again commits i deeds x (h .copies x)) (c .transaction e y);
+      transaction = λ e y. rw (past-again commits i deeds x (shown h x)) (c .transaction e y);
       inside = λ y e. c .inside y (unfold hasWritten in e);
-      seen = rw (past-again commits i deeds x (h .copies x)) (each-again x (h .copies x) deeds (c .seen));
-      sound = sound-new S (again x (h .copies x)) deeds (copy, sym (c .copies x)) (c .sound);
+      seen = rw (past-again commits i deeds x (shown h x)) (each-again x (shown h x) deeds (c .seen));
+      sound = sound-new (again x (shown h x)) deeds (copy, sym (c .copies x copy)) (c .sound);
     }
 
   -- ── The whole register ──────────────────────────────────────────────
@@ -155,7 +157,7 @@ module _ {W : Type 0} (S : Setting W) where
   unfolding fresh noHistory
   fresh-invariant = record {
     numbers = λ x y. unfold numberAmong blank in refl;
-    values = λ x. unfold replay blank in refl;
+    values = λ x. unfold replay blank versionShows in refl;
     handlers = λ i. idle-carries [] i zeros (λ y. unfold numberAmong in refl);
     aborts = λ a earlier q. elim q [ ];
   }

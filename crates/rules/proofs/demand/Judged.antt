@@ -4,7 +4,7 @@ use mathlib.Core.Path.{_≡_, refl, sym, ap, _∙_, fun-ext, subst}
 use mathlib.Core.Bool.{true, false, _||_}
 use Rattle.rules.specs.steps.Tables.{someBelow}
 use Rattle.rules.specs.steps.Codes.{Step, begin, try, giveUp, read, write}
-use Rattle.rules.specs.steps.Replies.{value, Refusal, Reply}
+use Rattle.rules.specs.steps.Replies.{shows, Refusal, Reply}
 use Rattle.rules.specs.steps.Register.{Setting, Register}
 use Rattle.rules.specs.steps.Checks.{firstHit}
 use Rattle.rules.specs.steps.Given.{Given, phaseFor, Free}
@@ -80,10 +80,10 @@ module _ {W : Type 0} (S : Setting W) (r : Register W) (h : History W) (g : Inva
   answer-is i giveUp v phase = refl
   answer-is i (read x) v phase =
       reading-cases S r i (r .handlers i) (λ result. result .outcome ≡ answerRead S (h .commits) (h .now i) x) x
-      (λ e. rw (sym (has-copy i x) ∙ e) (ap value (g .handlers i .copies x)))
+      (λ e. let copy = sym (has-copy i x) ∙ e in rw copy (ap shows (g .handlers i .copies x copy)))
       (λ e t. let no-copy = sym (has-copy i x) ∙ e in rw (no-copy, sym (torn-is i phase x no-copy) ∙ t))
       (λ e t. let no-copy = sym (has-copy i x) ∙ e in
-      rw (no-copy, sym (torn-is i phase x no-copy) ∙ t) (ap value (g .values x)))
+      rw (no-copy, sym (torn-is i phase x no-copy) ∙ t) (ap shows (g .values x)))
   answer-is i try v phase = trying-cases S r i (r .handlers i) (λ result. result .outcome ≡ answerTry S (h .commits) (h .now i))
       (λ e. rw (sym (overtaken-is i phase) ∙ e))
       (λ e k. rw (sym (overtaken-is i phase) ∙ e, sym (spent-is i phase) ∙ k))

@@ -16,7 +16,7 @@ use Rattle.rules.specs.history.History.{Deed, Commit, History, hasRead, 
 use Rattle.rules.specs.history.Past.{tears}
 use Rattle.rules.specs.demand.Judge.{versionCount, stale, full, orAborted, answerRead, answerTry, answer}
 use Rattle.rules.proofs.steps.Tables.{by, some-none}
-use Rattle.rules.proofs.steps.Properties.{ok-no-abort, commit-no-abort, value-no-abort}
+use Rattle.rules.proofs.steps.Properties.{ok-no-abort, commit-no-abort, shows-no-abort}
 use Rattle.rules.proofs.history.Versions.{count-most}
 
 module _ {W : Type 0} (S : Setting W) (commits : List (Commit W)) (deeds : List (Deed W)) (short : length commits < 65535) where
@@ -52,10 +52,10 @@ module _ {W : Type 0} where
       → answerRead S commits deeds x ≡ aborted spent → ⊥
   unfolding answerRead orAborted firstHit
   read-not-spent S commits deeds x e = by (hasRead deeds x || hasWritten deeds x)
-      (λ copy. value-no-abort _ spent (rw copy at e))
+      (λ copy. shows-no-abort _ spent (rw copy at e))
       (λ first. by (tears (S .cellCount) commits deeds (writer commits x))
       (λ tear. torn-not-spent (rw (first, tear) at e))
-      (λ whole. value-no-abort _ spent (rw (first, whole) at e)))
+      (λ whole. shows-no-abort _ spent (rw (first, whole) at e)))
 
   -- So no step is answered abort 3.
   pub never-spent : (S : Setting W) (h : History W) (i : ℕ) (step : Step) → length (h .commits) < 65535

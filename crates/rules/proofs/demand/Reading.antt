@@ -2,18 +2,20 @@
 use Prim.Native.Nat.{ℕ, max, _≤_, _<_}
 use native.Mathlib.Omega.{arith}
 use mathlib.Core.Path.{_≡_, refl, sym, ap, _∙_, fun-ext}
-use mathlib.Core.Bool.{true, false, _&&_, and-false}
+use mathlib.Core.Bool.{true, false, _&&_, _||_, and-false}
 use mathlib.Core.List.{List, _∷_}
 use lib.Dec.{eqb, ltb}
 use borrow.Author.Tests.{eqb-true, eqb-false, ltb-false, le-ltb}
 use Rattle.rules.specs.steps.Tables.{put, someBelow}
+use Rattle.rules.specs.steps.Replies.{Content}
 use Rattle.rules.specs.steps.Register.{Setting, Cell, Handler}
-use Rattle.rules.specs.steps.Figure.{joined, taken, isTorn}
+use Rattle.rules.specs.steps.Figure.{joined, taken, cellShows, shown, isTorn}
 use Rattle.rules.specs.history.History.{Deed, look, Commit, someLook, hasRead, hasWritten}
 use Rattle.rules.specs.history.Past.{inPast, upTo, outdated, tears}
 use Rattle.rules.specs.history.Replay.{replay}
 use Rattle.rules.specs.demand.Judge.{numberAmong, copied}
-use Rattle.rules.proofs.steps.Tables.{by, some-false, put-here, put-other}
+use Rattle.rules.proofs.steps.Tables.{by, either, some-false, put-here, put-other}
+use Rattle.rules.proofs.steps.Steps.{taken-shows}
 use Rattle.rules.proofs.history.Pasts.{past-look}
 use Rattle.rules.proofs.history.Versions.{number-or}
 use Rattle.rules.proofs.history.Deeds.{EachRead, each-look, read-there, read-found, sound-new}
@@ -78,31 +80,31 @@ module _ {W : Type 0} (S : Setting W) (commits : List (Commit W)) (i : ℕ) (dee
           (unfold tears in (sym torn-same ∙ t)) y inside
 
   -- The past with the read is the past and the source with its past.
-  number-look : (v : W) (y : ℕ) → numberAmong commits (inPast commits i (look x source v ∷ deeds)) y
+  number-look : (v : Content W) (y : ℕ) → numberAmong commits (inPast commits i (look x source v ∷ deeds)) y
       ≡ max (numberAmong commits (upTo commits source) y) (numberAmong commits (inPast commits i deeds) y)
   number-look v y = rw (past-look commits i deeds x source v) (number-or commits (upTo commits source) (inPast commits i deeds) y)
 
   -- The past holds no later version of x than the source's, and the read is not torn.
   module _ (inside : x < S .cellCount) (unwritten : hasWritten deeds x ≡ false) (wrote : wroteBy commits source x ≡ true)
       (most : numberAmong commits (inPast commits i deeds) x ≤ numberAmong commits (upTo commits source) x)
-      (value : c .value ≡ replay S commits (upTo commits source) x) (t : isTorn S (joined h x c) c ≡ false) where
+      (left : cellShows x c ≡ replay commits (upTo commits source) x) (t : isTorn S (joined h x c) c ≡ false) where
     -- The numbers after the read are those of the past with it.
     taken-numbers : (y : ℕ)
-        → taken (joined h x c) x c .transaction y ≡ numberAmong commits (inPast commits i (look x source (c .value) ∷ deeds)) y
+        → taken (joined h x c) x c .transaction y ≡ numberAmong commits (inPast commits i (look x source (cellShows x c) ∷ deeds)) y
     unfolding taken joined put
-    taken-numbers y = rw (number-look (c .value) y) (by (eqb y x)
+    taken-numbers y = rw (number-look (cellShows x c) y) (by (eqb y x)
         (λ e. rw (e, eqb-true y x e) (omega (arith, numbers x, most)))
         (λ e. rw e (by (hasRead deeds y)
         (λ q. rw (g .readSet y ∙ q) (omega (arith, untorn t y q, g .transaction refl y)))
         (λ q. rw (g .readSet y ∙ q) (omega (arith, numbers y, g .transaction refl y))))))
 
     -- What was read before is still the latest in the past.
-    still-seen : EachRead (Seen S commits (inPast commits i (look x source (c .value) ∷ deeds))) deeds
+    still-seen : EachRead (Seen S commits (inPast commits i (look x source (cellShows x c) ∷ deeds))) deeds
     still-seen y k v sooner q = record {
       inside = saw .inside;
       latest = record {
         wrote = saw .latest .wrote;
-        number = rw (number-look (c .value) y) (omega (arith, saw .latest .number, untorn t y (read-there deeds q)));
+        number = rw (number-look (cellShows x c) y) (omega (arith, saw .latest .number, untorn t y (read-there deeds q)));
       };
       value = saw .value;
     }
@@ -111,24 +113,33 @@ module _ {W : Type 0} (S : Setting W) (commits : List (Commit W)) (i : ℕ) (dee
         saw = g .seen y k v sooner q
 
     -- What is read now is the latest in the past.
-    just-seen : Seen S commits (inPast commits i (look x source (c .value) ∷ deeds)) x source (c .value)
+    just-seen : Seen S commits (inPast commits i (look x source (cellShows x c) ∷ deeds)) x source (cellShows x c)
     just-seen = record {
       inside = inside;
-      latest = record { wrote = wrote; number = rw (number-look (c .value) x) (omega (arith, most)) };
-      value = sym value;
+      latest = record { wrote = wrote; number = rw (number-look (cellShows x c) x) (omega (arith, most)) };
+      value = sym left;
     }
 
+    -- What was shown before is shown still: the number of a cell that was read stays, and a cell that was written shows its copy.
+    shown-still : (y : ℕ) → eqb y x ≡ false → hasRead deeds y || hasWritten deeds y ≡ true
+        → shown (taken (joined h x c) x c) y ≡ shown h y
+    unfolding shown taken joined put
+    shown-still y e accessed = rw (e, g .readSet y, g .writtenSet y)
+        (either (hasRead deeds y) (hasWritten deeds y) accessed (λ q. rw q) (λ q. rw q))
+
     -- The block after the read.
-    pub taken-carries : Carries S commits i true (look x source (c .value) ∷ deeds) (taken (joined h x c) x c)
+    pub taken-carries : Carries S commits i true (look x source (cellShows x c) ∷ deeds) (taken (joined h x c) x c)
     unfolding taken joined hasRead someLook hasWritten copied put
     taken-carries = record {
       opened = refl;
       readSet = λ y. by (eqb y x) (λ e. rw e) (λ e. rw e (g .readSet y));
       writtenSet = g .writtenSet;
-      copies = λ y. by (eqb y x) (λ e. rw e) (λ e. rw e (g .copies y));
+      copies = λ y accessed. by (eqb y x)
+          (λ e. rw (e, eqb-true y x e) (taken-shows h x c (g .writtenSet x ∙ unwritten)))
+          (λ e. rw e (shown-still y e (rw e at accessed) ∙ g .copies y (rw e at accessed)));
       numbers = g .numbers;
       transaction = λ e. taken-numbers;
       inside = g .inside;
-      seen = each-look x source (c .value) deeds just-seen still-seen;
-      sound = sound-new S (look x source (c .value)) deeds unwritten (g .sound);
+      seen = each-look x source (cellShows x c) deeds just-seen still-seen;
+      sound = sound-new (look x source (cellShows x c)) deeds unwritten (g .sound);
     }

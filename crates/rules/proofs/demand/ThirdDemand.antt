@@ -8,11 +8,11 @@ use Rattle.rules.specs.steps.Codes.{Step, begin, try, giveUp, read, writ
 use Rattle.rules.specs.steps.Replies.{Refusal, Reply}
 use Rattle.rules.specs.steps.Register.{Setting, Handler, Register, withHandler}
 use Rattle.rules.specs.steps.Given.{Within, phaseFor, Free}
-use Rattle.rules.specs.steps.Figure.{begun, wrote, isOvertaken, aborting, committing, reading, trying, step}
+use Rattle.rules.specs.steps.Figure.{begun, wrote, cellShows, shown, isOvertaken, aborting, committing, reading, trying, step}
 use Rattle.rules.specs.steps.Turn.{asked, turn}
 use Rattle.rules.specs.history.History.{Deed, look, again, set, Commit, History, hasRead, hasWritten, everyCommit}
 use Rattle.rules.specs.history.History.{writer, transaction}
-use Rattle.rules.specs.history.History.{noHistory, doing, readDeed, noteOk, noteValue, ended, noteCommit, noteAbort}
+use Rattle.rules.specs.history.History.{noHistory, doing, readDeed, noteOk, noteShown, ended, noteCommit, noteAbort}
 use Rattle.rules.specs.history.History.{note, noteReply}
 use Rattle.rules.specs.history.Past.{Stands, last, older, inPast, upTo}
 use Rattle.rules.specs.history.Replay.{replay, Finds}
@@ -31,20 +31,20 @@ use Rattle.rules.proofs.demand.Committing.{own, held, check-finds, abor
 use Rattle.rules.proofs.demand.Judged.{has-copy, answer-is, reply-is}
 use Rattle.rules.proofs.demand.ExactAborts.{torn-exactly, overtaken-exactly}
 
--- Each commit, done after the earlier ones, finds the values replied.
-abbrev pub Found : {W : Type 0} → Setting W → List (Commit W) → Type 0
-Found S commits = (c : Commit _) (earlier : List (Commit _)) → Stands commits c earlier
-    → Finds (c .deeds) (replay S earlier everyCommit)
+-- Each commit, done after the earlier ones, finds what was shown.
+abbrev pub Found : {W : Type 0} → List (Commit W) → Type 0
+Found commits = (c : Commit _) (earlier : List (Commit _)) → Stands commits c earlier
+    → Finds (c .deeds) (replay earlier everyCommit)
 
 -- What every turn keeps.
 pub record Kept {W : Type 0} (S : Setting W) (r : Register W) (h : History W) : Type 0 where
   pub invariant : Invariant S r h
-  pub found : Found S (h .commits)
+  pub found : Found (h .commits)
 
 -- The history tells of the cell x:
 pub record CellTold {W : Type 0} (S : Setting W) (r : Register W) (h : History W) (x : ℕ) : Type 0 where
-  -- its value is what all commits leave there,
-  pub value : r .cells x .value ≡ replay S (h .commits) everyCommit x
+  -- it shows what all commits leave there,
+  pub shows : cellShows x (r .cells x) ≡ replay (h .commits) everyCommit x
   -- and its own number is how many of them wrote it
   pub number : r .cells x .numbers x ≡ versionCount (h .commits) x
 
@@ -78,7 +78,7 @@ module _ {W : Type 0} (S : Setting W) (r : Register W) (h : History W) (i : ℕ)
       found = unfold noteCommit ended in one-more;
     }
       where
-        one-more : Found S (transaction h i ∷ h .commits)
+        one-more : Found (transaction h i ∷ h .commits)
         one-more c earlier last = check-finds S r h i holds (own S r h i (kept .invariant)) current
         one-more c earlier (older q) = kept .found c earlier q
 
@@ -92,16 +92,16 @@ module _ {W : Type 0} (S : Setting W) (r : Register W) (h : History W) (i : ℕ)
 
     -- A repeated read, or one of a cell that it has written.
     again-kept : (x : ℕ) → hasRead (h .now i) x || hasWritten (h .now i) x ≡ true
-        → Kept S r (doing h i (again x (r .handlers i .copies x) ∷ h .now i))
+        → Kept S r (doing h i (again x (shown (r .handlers i) x) ∷ h .now i))
     again-kept x copy = subst (λ q. Kept S q (doing h i deeds)) (with-same S r i)
         (doing-kept deeds (r .handlers i) (again-carries S (h .commits) i (h .now i) (r .handlers i) x copy holds))
       where
         deeds : List (Deed W)
-        deeds = again x (r .handlers i .copies x) ∷ h .now i
+        deeds = again x (shown (r .handlers i) x) ∷ h .now i
 
     -- A read of the present version, from the cells.
     abbrev presentRead : ℕ → Deed W
-    presentRead x = look x (writer (h .commits) x) (r .cells x .value)
+    presentRead x = look x (writer (h .commits) x) (cellShows x (r .cells x))
 
     -- A first read that is not torn.
     taken-kept : (x : ℕ) → x < S .cellCount → hasRead (h .now i) x || hasWritten (h .now i) x ≡ false
@@ -121,13 +121,13 @@ module _ {W : Type 0} (S : Setting W) (r : Register W) (h : History W) (i : ℕ)
             ≤ numberAmong (h .commits) (upTo (h .commits) (writer (h .commits) x)) x
         most = omega (arith, number-writer (h .commits) x, number-most (h .commits) (inPast (h .commits) i (h .now i)) x)
 
-        left : r .cells x .value ≡ replay S (h .commits) (upTo (h .commits) (writer (h .commits) x)) x
-        left = kept .invariant .values x ∙ sym (present-value S (h .commits) x)
+        left : cellShows x (r .cells x) ≡ replay (h .commits) (upTo (h .commits) (writer (h .commits) x)) x
+        left = kept .invariant .values x ∙ sym (present-value (h .commits) x)
 
     -- A read.
     read-kept : (x : ℕ) (v : W) → x < S .cellCount
         → Kept S (reading S r i (r .handlers i) x .after) (note h i (read x) v (reading S r i (r .handlers i) x .outcome))
-    unfolding note noteValue readDeed
+    unfolding note noteShown readDeed
     read-kept x v inside =
         reading-cases S r i (r .handlers i) (λ result. Kept S (result .after) (note h i (read x) v (result .outcome))) x
         (λ e. let copy = sym (has-copy S r h (kept .invariant) i x) ∙ e in rw copy (again-kept x copy))
@@ -219,7 +219,7 @@ module _ {W : Type 0} (S : Setting W) (n : ℕ) (asks : List (Ask W)) where
   -- There, the history tells of each cell.
   pub cells-told : (x : ℕ) → CellTold S (run S n (start S) asks .register) (run S n (start S) asks .history) x
   cells-told x = record {
-    value = reached-kept .invariant .values x;
+    shows = reached-kept .invariant .values x;
     number = own-number S (run S n (start S) asks .register) (run S n (start S) asks .history) (reached-kept .invariant) x;
   }
 

@@ -9,7 +9,7 @@ use lib.ListN.{length}
 use lib.Dec.{eqb}
 use Rattle.rules.specs.steps.Tables.{if_then_else_}
 use Rattle.rules.specs.steps.Codes.{Step, begin, try, giveUp, read, write, Kind, known, unknown}
-use Rattle.rules.specs.steps.Replies.{Refusal}
+use Rattle.rules.specs.steps.Replies.{Content, Refusal}
 use Rattle.rules.specs.steps.Register.{Setting}
 use Rattle.rules.specs.history.History.{Deed, Commit, History, someLook, hasRead, hasWritten, placeAfter, writerAmong, everyCommit, writer}
 use Rattle.rules.specs.history.Past.{hasReadFrom, inPast, upTo, later, outdated, tears}
@@ -21,33 +21,33 @@ use Rattle.rules.specs.demand.Judge.{versionCount, copied, stale, full, 
 
 -- Two lists of deeds that no answer of the history can tell apart: some read from the cells passes a test in both or in neither,
 -- the same cells were written, the same copies were made, and the same is left on every table.
-pub record SameDeeds {W : Type 0} (S : Setting W) (a b : List (Deed W)) : Type 0 where
+pub record SameDeeds {W : Type 0} (a b : List (Deed W)) : Type 0 where
   pub looks : (test : ℕ → ℕ → Bool) → someLook test a ≡ someLook test b
   pub writes : (x : ℕ) → hasWritten a x ≡ hasWritten b x
-  pub copies : (x : ℕ) → copied S a x ≡ copied S b x
-  pub leaves : (table : ℕ → W) (x : ℕ) → after a table x ≡ after b table x
+  pub copies : (x : ℕ) → copied a x ≡ copied b x
+  pub leaves : (table : ℕ → Content W) (x : ℕ) → after a table x ≡ after b table x
 
 -- Two lists of commits that are pairwise of the same handler and with such deeds.
-pub data SameCommits {W : Type 0} (S : Setting W) : List (Commit W) → List (Commit W) → Type 0 where
-  none : SameCommits S [] []
-  more : {c d : Commit W} {a b : List (Commit W)} → c .handler ≡ d .handler → SameDeeds S (c .deeds) (d .deeds)
-      → SameCommits S a b → SameCommits S (c ∷ a) (d ∷ b)
+pub data SameCommits {W : Type 0} : List (Commit W) → List (Commit W) → Type 0 where
+  none : SameCommits [] []
+  more : {c d : Commit W} {a b : List (Commit W)} → c .handler ≡ d .handler → SameDeeds (c .deeds) (d .deeds)
+      → SameCommits a b → SameCommits (c ∷ a) (d ∷ b)
 
 -- Two histories with such commits, the same open transactions, and such deeds of each. The aborted ones no answer asks.
-pub record SameHistory {W : Type 0} (S : Setting W) (h g : History W) : Type 0 where
-  pub commits : SameCommits S (h .commits) (g .commits)
+pub record SameHistory {W : Type 0} (h g : History W) : Type 0 where
+  pub commits : SameCommits (h .commits) (g .commits)
   pub opened : (i : ℕ) → h .opened i ≡ g .opened i
-  pub now : (i : ℕ) → SameDeeds S (h .now i) (g .now i)
+  pub now : (i : ℕ) → SameDeeds (h .now i) (g .now i)
 
-module _ {W : Type 0} {S : Setting W} where
+module _ {W : Type 0} where
   -- ── The same as itself, both ways, and through a third ──────────────
 
   -- Deeds are the same as themselves,
-  pub deeds-refl : {a : List (Deed W)} → SameDeeds S a a
+  pub deeds-refl : {a : List (Deed W)} → SameDeeds a a
   deeds-refl = record { looks = λ test. refl; writes = λ x. refl; copies = λ x. refl; leaves = λ table x. refl }
 
   -- both ways,
-  pub deeds-sym : {a b : List (Deed W)} → SameDeeds S a b → SameDeeds S b a
+  pub deeds-sym : {a b : List (Deed W)} → SameDeeds a b → SameDeeds b a
   deeds-sym s = record {
     looks = λ test. sym (s .looks test);
     writes = λ x. sym (s .writes x);
@@ -56,7 +56,7 @@ module _ {W : Type 0} {S : Setting W} where
   }
 
   -- and through a third.
-  pub deeds-trans : {a b c : List (Deed W)} → SameDeeds S a b → SameDeeds S b c → SameDeeds S a c
+  pub deeds-trans : {a b c : List (Deed W)} → SameDeeds a b → SameDeeds b c → SameDeeds a c
   deeds-trans s t = record {
     looks = λ test. s .looks test ∙ t .looks test;
     writes = λ x. s .writes x ∙ t .writes x;
@@ -65,27 +65,27 @@ module _ {W : Type 0} {S : Setting W} where
   }
 
   -- Commits are the same as themselves,
-  pub commits-refl : {a : List (Commit W)} → SameCommits S a a
+  pub commits-refl : {a : List (Commit W)} → SameCommits a a
   commits-refl {a = []} = none
   commits-refl {a = c ∷ a} = more refl deeds-refl commits-refl
 
   -- both ways,
-  pub commits-sym : {a b : List (Commit W)} → SameCommits S a b → SameCommits S b a
+  pub commits-sym : {a b : List (Commit W)} → SameCommits a b → SameCommits b a
   commits-sym none = none
   commits-sym (more handler deeds rest) = more (sym handler) (deeds-sym deeds) (commits-sym rest)
 
   -- and through a third.
-  pub commits-trans : {a b c : List (Commit W)} → SameCommits S a b → SameCommits S b c → SameCommits S a c
+  pub commits-trans : {a b c : List (Commit W)} → SameCommits a b → SameCommits b c → SameCommits a c
   commits-trans none none = none
   commits-trans (more handler deeds rest) (more handler′ deeds′ rest′) =
       more (handler ∙ handler′) (deeds-trans deeds deeds′) (commits-trans rest rest′)
 
   -- A history is the same as itself,
-  pub history-refl : {h : History W} → SameHistory S h h
+  pub history-refl : {h : History W} → SameHistory h h
   history-refl = record { commits = commits-refl; opened = λ i. refl; now = λ i. deeds-refl }
 
   -- both ways,
-  pub history-sym : {h g : History W} → SameHistory S h g → SameHistory S g h
+  pub history-sym : {h g : History W} → SameHistory h g → SameHistory g h
   history-sym s = record {
     commits = commits-sym (s .commits);
     opened = λ i. sym (s .opened i);
@@ -93,7 +93,7 @@ module _ {W : Type 0} {S : Setting W} where
   }
 
   -- and through a third.
-  pub history-trans : {f g h : History W} → SameHistory S f g → SameHistory S g h → SameHistory S f h
+  pub history-trans : {f g h : History W} → SameHistory f g → SameHistory g h → SameHistory f h
   history-trans s t = record {
     commits = commits-trans (s .commits) (t .commits);
     opened = λ i. s .opened i ∙ t .opened i;
@@ -103,30 +103,30 @@ module _ {W : Type 0} {S : Setting W} where
   -- ── Deeds ───────────────────────────────────────────────────────────
 
   -- Two tests that say the same of every read from the cells hold in both or in neither.
-  pub someLook-same : {a b : List (Deed W)} (test other : ℕ → ℕ → Bool) → SameDeeds S a b
+  pub someLook-same : {a b : List (Deed W)} (test other : ℕ → ℕ → Bool) → SameDeeds a b
       → ((y source : ℕ) → test y source ≡ other y source) → someLook test a ≡ someLook other b
   someLook-same {a = a} test other s same =
       ap (λ t. someLook t a) (fun-ext (λ y. fun-ext (same y))) ∙ s .looks other
 
   -- The same cells were read,
-  pub hasRead-same : {a b : List (Deed W)} → SameDeeds S a b → (x : ℕ) → hasRead a x ≡ hasRead b x
+  pub hasRead-same : {a b : List (Deed W)} → SameDeeds a b → (x : ℕ) → hasRead a x ≡ hasRead b x
   unfolding hasRead
   hasRead-same s x = s .looks (λ y source. eqb x y)
 
   -- and from the same commits.
-  pub hasReadFrom-same : {a b : List (Deed W)} → SameDeeds S a b → (k : ℕ) → hasReadFrom a k ≡ hasReadFrom b k
+  pub hasReadFrom-same : {a b : List (Deed W)} → SameDeeds a b → (k : ℕ) → hasReadFrom a k ≡ hasReadFrom b k
   unfolding hasReadFrom
   hasReadFrom-same s k = s .looks (λ y source. eqb source k)
 
   -- ── Commits ─────────────────────────────────────────────────────────
 
   -- There are as many of both,
-  pub length-same : {a b : List (Commit W)} → SameCommits S a b → length a ≡ length b
+  pub length-same : {a b : List (Commit W)} → SameCommits a b → length a ≡ length b
   length-same none = refl
   length-same (more handler deeds rest) = ap suc (length-same rest)
 
   -- the same one of a set wrote the latest version of a cell,
-  pub writerAmong-same : {a b : List (Commit W)} → SameCommits S a b → (included : ℕ → Bool) (x : ℕ)
+  pub writerAmong-same : {a b : List (Commit W)} → SameCommits a b → (included : ℕ → Bool) (x : ℕ)
       → writerAmong a included x ≡ writerAmong b included x
   unfolding writerAmong
   writerAmong-same none included x = refl
@@ -134,27 +134,27 @@ module _ {W : Type 0} {S : Setting W} where
       rw (length-same rest, deeds .writes x, writerAmong-same rest included x)
 
   -- and the same one of all,
-  pub writer-same : {a b : List (Commit W)} → SameCommits S a b → (x : ℕ) → writer a x ≡ writer b x
+  pub writer-same : {a b : List (Commit W)} → SameCommits a b → (x : ℕ) → writer a x ≡ writer b x
   unfolding writer
   writer-same s x = writerAmong-same s everyCommit x
 
   -- a cell has had as many versions,
-  pub versionCount-same : {a b : List (Commit W)} → SameCommits S a b → (x : ℕ) → versionCount a x ≡ versionCount b x
+  pub versionCount-same : {a b : List (Commit W)} → SameCommits a b → (x : ℕ) → versionCount a x ≡ versionCount b x
   unfolding versionCount
   versionCount-same none x = refl
   versionCount-same (more handler deeds rest) x = rw (deeds .writes x, versionCount-same rest x)
 
   -- and those of a set leave the same table.
-  pub replay-same : {a b : List (Commit W)} → SameCommits S a b → (included : ℕ → Bool) → replay S a included ≡ replay S b included
+  pub replay-same : {a b : List (Commit W)} → SameCommits a b → (included : ℕ → Bool) → replay a included ≡ replay b included
   unfolding replay
   replay-same none included = refl
   replay-same (more {b = b} handler deeds rest) included = rw (length-same rest, replay-same rest included)
-      (ap (λ table. if included (placeAfter b) then table else (replay S b included)) (fun-ext (deeds .leaves (replay S b included))))
+      (ap (λ table. if included (placeAfter b) then table else (replay b included)) (fun-ext (deeds .leaves (replay b included))))
 
   -- ── Pasts ───────────────────────────────────────────────────────────
 
   -- The causal past of a transaction holds the commit j in both or in neither,
-  inPast-at : {a b : List (Commit W)} {now other : List (Deed W)} → SameCommits S a b → (i : ℕ) → SameDeeds S now other
+  inPast-at : {a b : List (Commit W)} {now other : List (Deed W)} → SameCommits a b → (i : ℕ) → SameDeeds now other
       → (j : ℕ) → inPast a i now j ≡ inPast b i other j
   unfolding inPast
   inPast-at none i s j = refl
@@ -162,26 +162,26 @@ module _ {W : Type 0} {S : Setting W} where
       simp (length-same rest, handler, hasReadFrom-same s, inPast-at rest (d .handler) deeds j, inPast-at rest i s j)
 
   -- so it is the same set of commits,
-  pub inPast-same : {a b : List (Commit W)} {now other : List (Deed W)} → SameCommits S a b → (i : ℕ) → SameDeeds S now other
+  pub inPast-same : {a b : List (Commit W)} {now other : List (Deed W)} → SameCommits a b → (i : ℕ) → SameDeeds now other
       → inPast a i now ≡ inPast b i other
   inPast-same commits i s = fun-ext (inPast-at commits i s)
 
   -- and so is a commit with its causal past.
-  pub upTo-same : {a b : List (Commit W)} → SameCommits S a b → (k : ℕ) → upTo a k ≡ upTo b k
+  pub upTo-same : {a b : List (Commit W)} → SameCommits a b → (k : ℕ) → upTo a k ≡ upTo b k
   unfolding upTo
   upTo-same none k = fun-ext (λ j. refl)
   upTo-same (more {d = d} handler deeds rest) k = fun-ext (λ j.
       rw (length-same rest, handler, inPast-same rest (d .handler) deeds, upTo-same rest k))
 
   -- A set wrote a later version of a cell in both or in neither,
-  pub later-same : {a b : List (Commit W)} → SameCommits S a b → (included : ℕ → Bool) (y source : ℕ)
+  pub later-same : {a b : List (Commit W)} → SameCommits a b → (included : ℕ → Bool) (y source : ℕ)
       → later a included y source ≡ later b included y source
   unfolding later
   later-same none included y source = refl
   later-same (more handler deeds rest) included y source =
       rw (length-same rest, deeds .writes y, later-same rest included y source)
 
-  module _ {a b : List (Commit W)} {now other : List (Deed W)} (commits : SameCommits S a b) (deeds : SameDeeds S now other) where
+  module _ {a b : List (Commit W)} {now other : List (Deed W)} (commits : SameCommits a b) (deeds : SameDeeds now other) where
     -- the same cells that were read are outdated,
     pub outdated-same : (included : ℕ → Bool) (y : ℕ) → outdated a included now y ≡ outdated b included other y
     unfolding outdated
@@ -206,8 +206,10 @@ module _ {W : Type 0} {S : Setting W} where
     unfolding full
     full-same y = rw (deeds .writes y, versionCount-same commits y)
 
-    -- ── Answers ───────────────────────────────────────────────────────
+-- ── Answers ───────────────────────────────────────────────────────────
 
+module _ {W : Type 0} (S : Setting W) where
+  module _ {a b : List (Commit W)} {now other : List (Deed W)} (commits : SameCommits a b) (deeds : SameDeeds now other) where
     -- The answer to a read is the same,
     pub answerRead-same : (x : ℕ) → answerRead S a now x ≡ answerRead S b other x
     unfolding answerRead
@@ -216,16 +218,16 @@ module _ {W : Type 0} {S : Setting W} where
       deeds .writes x,
       deeds .copies x,
       writer-same commits x,
-      tears-same (S .cellCount) (writer b x),
+      tears-same commits deeds (S .cellCount) (writer b x),
       replay-same commits everyCommit,
     )
 
     -- and so is the answer to a try.
     pub answerTry-same : answerTry S a now ≡ answerTry S b other
     unfolding answerTry
-    answerTry-same = rw (fun-ext stale-same, fun-ext full-same)
+    answerTry-same = rw (fun-ext (stale-same commits deeds), fun-ext (full-same commits deeds))
 
-  module _ {h g : History W} (same : SameHistory S h g) (i : ℕ) where
+  module _ {h g : History W} (same : SameHistory h g) (i : ℕ) where
     -- Every step has the same answer,
     pub answer-same : (step : Step) → answer S h i step ≡ answer S g i step
     unfolding answer

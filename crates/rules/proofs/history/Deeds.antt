@@ -9,7 +9,7 @@ use lib.ListN.{length}
 use lib.Dec.{eqb}
 use borrow.Author.Tests.{eqb-true, eq-eqb}
 use Rattle.rules.specs.steps.Tables.{put, someBelow}
-use Rattle.rules.specs.steps.Register.{Setting}
+use Rattle.rules.specs.steps.Replies.{Content}
 use Rattle.rules.specs.history.History.{Deed, look, again, set, Commit, someLook, hasRead, hasWritten, placeAfter}
 use Rattle.rules.specs.history.Past.{Stands, last, older, hasReadFrom}
 use Rattle.rules.specs.history.Replay.{after, Finds}
@@ -25,31 +25,31 @@ stands-before (older s) t = older (stands-before s t)
 module _ {W : Type 0} where
   -- ── Reads from the cells ────────────────────────────────────────────
 
-  -- Q holds of each read from the cells: of the cell, the source, and the value replied.
-  abbrev pub EachRead : (ℕ → ℕ → W → Type 0) → List (Deed W) → Type 0
-  EachRead Q deeds = (y source : ℕ) (v : W) (sooner : List (Deed W)) → Stands deeds (look y source v) sooner → Q y source v
+  -- Q holds of each read from the cells: of the cell, the source, and what was shown.
+  abbrev pub EachRead : (ℕ → ℕ → Content W → Type 0) → List (Deed W) → Type 0
+  EachRead Q deeds = (y source : ℕ) (v : Content W) (sooner : List (Deed W)) → Stands deeds (look y source v) sooner → Q y source v
 
   -- It holds of each read where there is no deed,
-  pub each-none : (Q : ℕ → ℕ → W → Type 0) → EachRead Q []
+  pub each-none : (Q : ℕ → ℕ → Content W → Type 0) → EachRead Q []
   each-none Q y source v sooner q = elim q [ ]
 
   -- where there is one deed fewer,
-  pub each-older : {Q : ℕ → ℕ → W → Type 0} (d : Deed W) (deeds : List (Deed W)) → EachRead Q (d ∷ deeds) → EachRead Q deeds
+  pub each-older : {Q : ℕ → ℕ → Content W → Type 0} (d : Deed W) (deeds : List (Deed W)) → EachRead Q (d ∷ deeds) → EachRead Q deeds
   each-older d deeds each y source v sooner q = each y source v sooner (older q)
 
   -- where there is one more read, of which it holds,
-  pub each-look : {Q : ℕ → ℕ → W → Type 0} (x k : ℕ) (w : W) (deeds : List (Deed W)) → Q x k w → EachRead Q deeds
+  pub each-look : {Q : ℕ → ℕ → Content W → Type 0} (x k : ℕ) (w : Content W) (deeds : List (Deed W)) → Q x k w → EachRead Q deeds
       → EachRead Q (look x k w ∷ deeds)
   each-look x k w deeds h each y source v sooner last = h
   each-look x k w deeds h each y source v sooner (older q) = each y source v sooner q
 
   -- where there is one more read from a copy,
-  pub each-again : {Q : ℕ → ℕ → W → Type 0} (x : ℕ) (w : W) (deeds : List (Deed W)) → EachRead Q deeds
+  pub each-again : {Q : ℕ → ℕ → Content W → Type 0} (x : ℕ) (w : Content W) (deeds : List (Deed W)) → EachRead Q deeds
       → EachRead Q (again x w ∷ deeds)
   each-again x w deeds each y source v sooner (older q) = each y source v sooner q
 
   -- and where there is one more write.
-  pub each-set : {Q : ℕ → ℕ → W → Type 0} (x : ℕ) (w : W) (deeds : List (Deed W)) → EachRead Q deeds
+  pub each-set : {Q : ℕ → ℕ → Content W → Type 0} (x : ℕ) (w : W) (deeds : List (Deed W)) → EachRead Q deeds
       → EachRead Q (set x w ∷ deeds)
   each-set x w deeds each y source v sooner (older q) = each y source v sooner q
 
@@ -58,7 +58,7 @@ module _ {W : Type 0} where
   -- A read of y from the cells that stands among the deeds and passes a test.
   pub record PassingAt (test : ℕ → ℕ → Bool) (deeds : List (Deed W)) (y : ℕ) : Type 0 where
     pub source : ℕ
-    pub value : W
+    pub value : Content W
     pub sooner : List (Deed W)
     pub stands : Stands deeds (look y source value) sooner
     pub passes : test y source ≡ true
@@ -74,7 +74,7 @@ module _ {W : Type 0} where
       (t .0, record { source = q .source; value = q .value; sooner = q .sooner; stands = older (q .stands); passes = q .passes })
 
   -- A read that passes makes the test hold,
-  pub look-there : (test : ℕ → ℕ → Bool) (deeds : List (Deed W)) {y source : ℕ} {v : W} {sooner : List (Deed W)}
+  pub look-there : (test : ℕ → ℕ → Bool) (deeds : List (Deed W)) {y source : ℕ} {v : Content W} {sooner : List (Deed W)}
       → Stands deeds (look y source v) sooner → test y source ≡ true → someLook test deeds ≡ true
   unfolding someLook
   look-there test [] q h = elim q [ ]
@@ -94,7 +94,7 @@ module _ {W : Type 0} where
   look-found test (set z w ∷ deeds) h = passing-older (set z w) (look-found test deeds h)
 
   -- A cell that is read from the cells was read,
-  pub read-there : (deeds : List (Deed W)) {y source : ℕ} {v : W} {sooner : List (Deed W)}
+  pub read-there : (deeds : List (Deed W)) {y source : ℕ} {v : Content W} {sooner : List (Deed W)}
       → Stands deeds (look y source v) sooner → hasRead deeds y ≡ true
   unfolding hasRead
   read-there deeds {y} q = look-there (λ z k. eqb y z) deeds q (eq-eqb y y refl)
@@ -109,7 +109,7 @@ module _ {W : Type 0} where
       (record { source = q .source; value = q .value; sooner = q .sooner; stands = q .stands; passes = refl })
 
   -- What was read from the cells was read from its source.
-  pub readFrom-there : (deeds : List (Deed W)) {y source : ℕ} {v : W} {sooner : List (Deed W)}
+  pub readFrom-there : (deeds : List (Deed W)) {y source : ℕ} {v : Content W} {sooner : List (Deed W)}
       → Stands deeds (look y source v) sooner → hasReadFrom deeds source ≡ true
   unfolding hasReadFrom
   readFrom-there deeds {source = source} q = look-there (λ y k. eqb k source) deeds q (eq-eqb source source refl)
@@ -178,7 +178,7 @@ module _ {W : Type 0} where
   -- ── What deeds leave on a table ─────────────────────────────────────
 
   -- A cell that was not written is as it was.
-  pub after-kept : (deeds : List (Deed W)) (table : ℕ → W) (x : ℕ) → hasWritten deeds x ≡ false → after deeds table x ≡ table x
+  pub after-kept : (deeds : List (Deed W)) (table : ℕ → Content W) (x : ℕ) → hasWritten deeds x ≡ false → after deeds table x ≡ table x
   unfolding after hasWritten put
   after-kept [] table x h = refl
   after-kept (look y source v ∷ deeds) table x h = after-kept deeds table x h
@@ -188,7 +188,7 @@ module _ {W : Type 0} where
       (λ e. rw e (after-kept deeds table x (rw e at h)))
 
   -- A cell that was written is the same, whatever the table was.
-  pub after-written : (deeds : List (Deed W)) (table other : ℕ → W) (x : ℕ)
+  pub after-written : (deeds : List (Deed W)) (table other : ℕ → Content W) (x : ℕ)
       → hasWritten deeds x ≡ true → after deeds table x ≡ after deeds other x
   unfolding after hasWritten put
   after-written [] table other x h = absurd (false≢true h)
@@ -199,14 +199,13 @@ module _ {W : Type 0} where
       (λ e. rw e (after-written deeds table other x (rw e at h)))
 
   -- What was read from the cells is what the table holds.
-  abbrev pub Holds : List (Deed W) → (ℕ → W) → Type 0
+  abbrev pub Holds : List (Deed W) → (ℕ → Content W) → Type 0
   Holds deeds table = EachRead (λ y source v. table y ≡ v) deeds
 
-module _ {W : Type 0} (S : Setting W) where
   -- A read is answered from the copy where there is one, and only there.
   abbrev SoundDeed : List (Deed W) → Deed W → Type 0
   SoundDeed sooner (look y source v) = hasWritten sooner y ≡ false
-  SoundDeed sooner (again y v) = (hasRead sooner y || hasWritten sooner y ≡ true) × (copied S sooner y ≡ v)
+  SoundDeed sooner (again y v) = (hasRead sooner y || hasWritten sooner y ≡ true) × (copied sooner y ≡ v)
   SoundDeed sooner (set y v) = Unit {0}
 
   -- Each of the deeds is sound, after those that came sooner.
@@ -227,8 +226,8 @@ module _ {W : Type 0} (S : Setting W) where
   sound-older d deeds sound e sooner q = sound e sooner (older q)
 
   -- The copy of a cell is what the deeds leave on a table that holds what was read.
-  pub copied-after : (deeds : List (Deed W)) (table : ℕ → W) (x : ℕ) → Holds deeds table → Sound deeds
-      → hasRead deeds x || hasWritten deeds x ≡ true → after deeds table x ≡ copied S deeds x
+  pub copied-after : (deeds : List (Deed W)) (table : ℕ → Content W) (x : ℕ) → Holds deeds table → Sound deeds
+      → hasRead deeds x || hasWritten deeds x ≡ true → after deeds table x ≡ copied deeds x
   unfolding after copied hasRead someLook hasWritten put
   copied-after [] table x holds sound h = absurd (false≢true h)
   copied-after (look y k v ∷ deeds) table x holds sound h = by (eqb x y)
@@ -242,8 +241,8 @@ module _ {W : Type 0} (S : Setting W) where
       (λ e. rw e (copied-after deeds table x (each-older (set y v) deeds holds) (sound-older (set y v) deeds sound)
       (rw e at h)))
 
-  -- On a table that holds what was read from the cells, every read finds the value replied.
-  pub finds-all : (deeds : List (Deed W)) (table : ℕ → W) → Holds deeds table → Sound deeds → Finds deeds table
+  -- On a table that holds what was read from the cells, every read finds what was shown.
+  pub finds-all : (deeds : List (Deed W)) (table : ℕ → Content W) → Holds deeds table → Sound deeds → Finds deeds table
   finds-all deeds table holds sound = record {
     looks = λ y source v sooner q. after-kept sooner table y (sound (look y source v) sooner q) ∙ holds y source v sooner q;
     repeats = λ y v sooner q.

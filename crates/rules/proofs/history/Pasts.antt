@@ -7,7 +7,7 @@ use mathlib.Core.List.{List, [], _∷_}
 use lib.ListN.{length}
 use lib.Dec.{eqb}
 use borrow.Author.Tests.{eqb-true, eqb-false, eq-eqb, ne-eqb}
-use Rattle.rules.specs.steps.Tables.{if_then_else_}
+use Rattle.rules.specs.steps.Replies.{Content}
 use Rattle.rules.specs.history.History.{Deed, look, again, set, Commit, someLook, placeAfter}
 use Rattle.rules.specs.history.Past.{hasReadFrom, follows, inPast, upTo, lastOf}
 use Rattle.rules.proofs.steps.Tables.{by, or-absorb, or-swap}
@@ -97,7 +97,7 @@ module _ {W : Type 0} where
   -- ── One more deed ───────────────────────────────────────────────────
 
   -- The next law, commit by commit.
-  look-at : (commits : List (Commit W)) (i : ℕ) (deeds : List (Deed W)) (x source : ℕ) (v : W) (j : ℕ)
+  look-at : (commits : List (Commit W)) (i : ℕ) (deeds : List (Deed W)) (x source : ℕ) (v : Content W) (j : ℕ)
       → inPast commits i (look x source v ∷ deeds) j ≡ upTo commits source j || inPast commits i deeds j
   unfolding inPast upTo hasReadFrom someLook
   look-at [] i deeds x source v j = refl
@@ -116,7 +116,7 @@ module _ {W : Type 0} where
       twice false false false rest = refl
 
   -- A read from the cells adds its source with that one's past.
-  pub past-look : (commits : List (Commit W)) (i : ℕ) (deeds : List (Deed W)) (x source : ℕ) (v : W)
+  pub past-look : (commits : List (Commit W)) (i : ℕ) (deeds : List (Deed W)) (x source : ℕ) (v : Content W)
       → inPast commits i (look x source v ∷ deeds) ≡ (λ j. upTo commits source j || inPast commits i deeds j)
   past-look commits i deeds x source v = fun-ext (look-at commits i deeds x source v)
 
@@ -128,7 +128,7 @@ module _ {W : Type 0} where
   past-same (c ∷ commits) i deeds others j same = rw (past-same commits i deeds others j same, same (placeAfter commits))
 
   -- A read answered from the copy adds nothing,
-  pub past-again : (commits : List (Commit W)) (i : ℕ) (deeds : List (Deed W)) (x : ℕ) (v : W)
+  pub past-again : (commits : List (Commit W)) (i : ℕ) (deeds : List (Deed W)) (x : ℕ) (v : Content W)
       → inPast commits i (again x v ∷ deeds) ≡ inPast commits i deeds
   past-again commits i deeds x v =
       fun-ext (λ j. past-same commits i (again x v ∷ deeds) deeds j (λ k. unfold hasReadFrom someLook in refl))

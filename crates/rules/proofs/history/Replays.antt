@@ -7,7 +7,7 @@ use mathlib.Core.List.{List, [], _∷_}
 use lib.ListN.{length}
 use borrow.Author.Tests.{lt-ltb, le-ltb}
 use Rattle.rules.specs.steps.Tables.{if_then_else_}
-use Rattle.rules.specs.steps.Register.{Setting}
+use Rattle.rules.specs.steps.Replies.{Content}
 use Rattle.rules.specs.history.History.{Deed, Commit, hasWritten, placeAfter, everyCommit, writer}
 use Rattle.rules.specs.history.Past.{upTo}
 use Rattle.rules.specs.history.Replay.{after, firstOf, replay}
@@ -31,31 +31,30 @@ module _ {W : Type 0} where
   first-all [] = refl
   first-all (c ∷ commits) = rw (lt-ltb (length commits) (placeAfter commits) (omega arith))
 
-module _ {W : Type 0} (S : Setting W) where
   -- ── One more commit ─────────────────────────────────────────────────
 
   -- A commit outside the set is not done.
   replay-skip : (c : Commit W) (commits : List (Commit W)) (included : ℕ → Bool)
-      → included (placeAfter commits) ≡ false → replay S (c ∷ commits) included ≡ replay S commits included
+      → included (placeAfter commits) ≡ false → replay (c ∷ commits) included ≡ replay commits included
   unfolding replay
   replay-skip c commits included e = rw e
 
   -- One more commit changes nothing of what an older one with its past leaves.
   pub replay-old : (c : Commit W) (commits : List (Commit W)) (k : ℕ) → k ≤ length commits
-      → replay S (c ∷ commits) (upTo (c ∷ commits) k) ≡ replay S commits (upTo commits k)
+      → replay (c ∷ commits) (upTo (c ∷ commits) k) ≡ replay commits (upTo commits k)
   replay-old c commits k stood = rw (upTo-old c commits k stood)
       (replay-skip c commits (upTo commits k) (upTo-none commits k (placeAfter commits) (omega arith)))
 
   -- All commits, with one more.
   pub replay-every : (c : Commit W) (commits : List (Commit W))
-      → replay S (c ∷ commits) everyCommit ≡ after (c .deeds) (replay S commits everyCommit)
+      → replay (c ∷ commits) everyCommit ≡ after (c .deeds) (replay commits everyCommit)
   unfolding replay
   replay-every c commits = refl
 
   -- ── The same version, the same value ────────────────────────────────
 
   -- One more commit, which is in the first set or not, in the second or not, and wrote the cell or not.
-  one-more : (p q wrote : Bool) (deeds : List (Deed W)) (table other : ℕ → W) (x a b top : ℕ)
+  one-more : (p q wrote : Bool) (deeds : List (Deed W)) (table other : ℕ → Content W) (x a b top : ℕ)
       → hasWritten deeds x ≡ wrote → a ≤ top → b ≤ top → (a ≡ b → table x ≡ other x)
       → (if p && wrote then suc top else a) ≡ (if q && wrote then suc top else b)
       → (if p then after deeds table else table) x ≡ (if q then after deeds other else other) x
@@ -70,17 +69,17 @@ module _ {W : Type 0} (S : Setting W) where
 
   -- Sets with the same latest version of a cell leave the same value there.
   pub same-value : (commits : List (Commit W)) (included others : ℕ → Bool) (x : ℕ)
-      → numberAmong commits included x ≡ numberAmong commits others x → replay S commits included x ≡ replay S commits others x
+      → numberAmong commits included x ≡ numberAmong commits others x → replay commits included x ≡ replay commits others x
   unfolding replay numberAmong
   same-value [] included others x h = refl
   same-value (c ∷ commits) included others x h =
       one-more (included (placeAfter commits)) (others (placeAfter commits)) (hasWritten (c .deeds) x) (c .deeds)
-      (replay S commits included) (replay S commits others) x
+      (replay commits included) (replay commits others) x
       (numberAmong commits included x) (numberAmong commits others x) (versionCount commits x) refl
       (number-most commits included x) (number-most commits others x) (same-value commits included others x) h
 
   -- The writer of the present version, with its past, leaves what all commits leave.
   pub present-value : (commits : List (Commit W)) (x : ℕ)
-      → replay S commits (upTo commits (writer commits x)) x ≡ replay S commits everyCommit x
+      → replay commits (upTo commits (writer commits x)) x ≡ replay commits everyCommit x
   present-value commits x =
       same-value commits (upTo commits (writer commits x)) everyCommit x (number-writer commits x ∙ sym (number-every commits x))

@@ -13,7 +13,7 @@ use Rattle.rules.specs.steps.Figure.{joined, isTorn, isOvertaken, isSpen
 use Rattle.rules.specs.steps.Aborts.{Current, Stale, Spent, Roomy, Torn, TryAborted}
 use Rattle.rules.proofs.steps.Tables.{by, both-ways, and-left, and-right, and-both, some-true, some-from}
 use Rattle.rules.proofs.steps.Steps.{reading-cases, trying-cases}
-use Rattle.rules.proofs.steps.Properties.{commit-no-abort, value-no-abort}
+use Rattle.rules.proofs.steps.Properties.{commit-no-abort, shows-no-abort}
 
 -- ── Tests of a set's cells ────────────────────────────────────────────
 
@@ -176,7 +176,7 @@ module _ {W : Type 0} (S : Setting W) where
       reading-cases S r i (r .handlers i) (λ result. (result .outcome ≡ aborted torn) ↔ Torn S joins (r .cells x)) x
       (λ copied. both-ways copied (rw (unread, unwritten)))
       (λ first isTorn. (λ e. means .0 isTorn, λ t. refl))
-      (λ first isTaken. (λ e. absurd (value-no-abort _ torn e), λ t. both-ways (means .1 t) isTaken))
+      (λ first isTaken. (λ e. absurd (shows-no-abort _ torn e), λ t. both-ways (means .1 t) isTaken))
     where
       joins : Handler W
       joins = joined (r .handlers i) x (r .cells x)

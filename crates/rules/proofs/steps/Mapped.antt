@@ -1,14 +1,15 @@
 -- The rules never look at a value: a step on a register whose values are mapped is the mapped step.
 use Prim.Native.Nat.{ℕ}
-use mathlib.Core.Path.{_≡_, refl, sym, ap, ap₂, _∙_, fun-ext}
-use mathlib.Core.Bool.{Bool, true, false, _||_}
+use mathlib.Core.Path.{_≡_, sym, ap, ap₂, _∙_, fun-ext}
+use mathlib.Core.Bool.{true, _||_}
 use mathlib.Core.Option.{Option, none, some}
-use Rattle.rules.specs.steps.Tables.{if_then_else_, put}
+use lib.Dec.{eqb}
+use Rattle.rules.specs.steps.Tables.{put}
 use Rattle.rules.specs.steps.Codes.{Step, begin, try, giveUp, read, write}
-use Rattle.rules.specs.steps.Replies.{Reason, gaveUp, Outcome, ok, value, committed, aborted}
+use Rattle.rules.specs.steps.Replies.{Reason, gaveUp, Content, unset, value, Outcome, ok, shows, committed, aborted}
 use Rattle.rules.specs.steps.Register.{Setting, Cell, Handler, Register, withHandler, idle}
 use Rattle.rules.specs.steps.Checks.{firstHit}
-use Rattle.rules.specs.steps.Figure.{Result, joined, taken, wrote, shown, stamped, stored, begun, isTorn, isOvertaken, isSpent}
+use Rattle.rules.specs.steps.Figure.{Result, joined, taken, wrote, versionShows, shown, stamped, stored, begun, isTorn, isOvertaken, isSpent}
 use Rattle.rules.specs.steps.Figure.{aborting, committing, endedWith, unlessAborted, readChecks, tryChecks, firstRead, reading, trying, step}
 use Rattle.rules.proofs.steps.Tables.{by, put-map}
 
@@ -33,9 +34,13 @@ module _ {W U : Type 0} (f : W → U) where
   abbrev pub mapRegister : Register W → Register U
   mapRegister r = record { cells = λ c. mapCell (r .cells c); handlers = λ i. mapHandler (r .handlers i) }
 
+  abbrev pub mapContent : Content W → Content U
+  mapContent unset = unset
+  mapContent (value v) = value (f v)
+
   abbrev pub mapOutcome : Outcome W → Outcome U
   mapOutcome ok = ok
-  mapOutcome (value v) = value (f v)
+  mapOutcome (shows v) = shows (mapContent v)
   mapOutcome committed = committed
   mapOutcome (aborted reason) = aborted reason
 
@@ -73,6 +78,11 @@ module _ {W U : Type 0} (f : W → U) where
     copies = fun-ext (λ y. sym (put-map f (h .copies) x (c .value) y)) d;
   }
 
+  -- What is shown, of a mapped copy.
+  shown-mapped : (h : Handler W) (x : ℕ) → shown (mapHandler h) x ≡ mapContent (shown h x)
+  unfolding shown versionShows
+  shown-mapped h x = by (h .writtenSet x) (λ e. rw e) (λ e. rw e (by (eqb (h .transaction x) 0) (λ k. rw k) (λ k. rw k)))
+
   module _ (S : Setting W) (r : Register W) (i : ℕ) where
     -- A transaction that is ended.
     ended-mapped : (reason : Reason)
@@ -90,24 +100,28 @@ module _ {W U : Type 0} (f : W → U) where
     -- A commit.
     commit-mapped : committing (mapSetting S) (mapRegister r) i (mapHandler (r .handlers i)) ≡ mapRegister (committing S r i (r .handlers i))
     unfolding committing idle stamped stored
-    commit-mapped = ap (λ cells. withHandler (record { cells = cells; handlers = mapRegister r .handlers }) i (idle (mapSetting S) (stamped r (r .handlers i)))) cells
-        ∙ with-mapped (record { cells = stored r (r .handlers i); handlers = r .handlers }) i (idle S (stamped r (r .handlers i)))
+    commit-mapped = ap (λ cells. withHandler (record { cells = cells; handlers = mapRegister r .handlers }) i (idle (mapSetting S) numbers)) cells
+        ∙ with-mapped (record { cells = stored r (r .handlers i); handlers = r .handlers }) i (idle S numbers)
       where
+        numbers : ℕ → ℕ
+        numbers = stamped r (r .handlers i)
+
         cells : stored (mapRegister r) (mapHandler (r .handlers i)) ≡ (λ c. mapCell (stored r (r .handlers i) c))
         cells = fun-ext (λ c. by (r .handlers i .writtenSet c) (λ e. rw e) (λ e. rw e))
 
     -- A step.
     pub step-mapped : (s : Step) (v : W) → step (mapSetting S) (mapRegister r) i s (f v) ≡ mapResult (step S r i s v)
-    unfolding step begun wrote trying tryChecks isOvertaken isSpent reading firstRead readChecks isTorn shown joined taken withHandler firstHit
+    unfolding step begun wrote trying tryChecks isOvertaken isSpent reading firstRead readChecks isTorn joined taken withHandler firstHit
     step-mapped begin v = ap (λ q. record { outcome = ok; after = q }) (with-mapped r i _)
-    step-mapped try v = unless-mapped (firstHit (tryChecks S r (r .handlers i))) (record { outcome = committed; after = committing S r i (r .handlers i) }) (ap (λ q. record { outcome = committed; after = q }) commit-mapped)
+    step-mapped try v = unless-mapped (firstHit (tryChecks S r (r .handlers i)))
+        (record { outcome = committed; after = committing S r i (r .handlers i) }) (ap (λ q. record { outcome = committed; after = q }) commit-mapped)
     step-mapped giveUp v = ended-mapped gaveUp
     step-mapped (read x) v = by (r .handlers i .readSet x || r .handlers i .writtenSet x)
-        (λ e. rw e)
+        (λ e. rw e (ap (λ v. record { outcome = shows v; after = mapRegister r }) (shown-mapped (r .handlers i) x)))
         (λ e. rw e (unless-mapped (firstHit (readChecks S (joined (r .handlers i) x (r .cells x)) (r .cells x)))
-        (record { outcome = shown next x; after = withHandler r i next })
-        (ap (λ h. record { outcome = shown h x; after = withHandler (mapRegister r) i h }) (taken-mapped (r .handlers i) x (r .cells x))
-        ∙ ap (λ q. record { outcome = value (f (next .copies x)); after = q }) (with-mapped r i next))))
+        (record { outcome = shows (shown next x); after = withHandler r i next })
+        (ap (λ h. record { outcome = shows (shown h x); after = withHandler (mapRegister r) i h }) (taken-mapped (r .handlers i) x (r .cells x))
+        ∙ ap₂ (λ v q. record { outcome = shows v; after = q }) (shown-mapped next x) (with-mapped r i next))))
       where
         next : Handler W
         next = taken (joined (r .handlers i) x (r .cells x)) x (r .cells x)

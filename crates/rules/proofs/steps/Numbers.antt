@@ -5,7 +5,7 @@ use native.Mathlib.Omega.{arith}
 use mathlib.Core.Path.{_≡_, refl, sym, ap, _∙_}
 use lib.Dec.{eqb}
 use Rattle.rules.specs.steps.Tables.{if_then_else_}
-use Rattle.rules.specs.steps.Replies.{Reason, torn, overtaken, spent, gaveUp, Outcome, ok, value, committed}
+use Rattle.rules.specs.steps.Replies.{Reason, torn, overtaken, spent, gaveUp, unset, value, Outcome, ok, shows, committed}
 use Rattle.rules.specs.steps.Replies.{aborted, Refusal, notWellFormed, noHandler, noCell, alreadyOpen, notOpen, unknownStep, outOfRange}
 use Rattle.rules.specs.steps.Replies.{tooShort, badFile, usedUp, tooManyCommits, sheetFull, noRoom, reasonNumber, refusalNumber}
 use Rattle.rules.specs.steps.Replies.{Numbers, outcomeNumbers, refusalNumbers}
@@ -36,8 +36,8 @@ refusalBack n =
 -- The outcome of an answer in numbers.
 outcomeBack : Numbers → Outcome ℕ
 outcomeBack n =
-    if eqb (n .kind) 0 then ok else (if eqb (n .kind) 1 then (value (n .detail))
-    else (if eqb (n .kind) 2 then committed else (aborted (reasonBack (n .detail)))))
+    if eqb (n .kind) 0 then ok else (if eqb (n .kind) 1 then (shows (value (n .detail)))
+    else (if eqb (n .kind) 5 then (shows unset) else (if eqb (n .kind) 2 then committed else (aborted (reasonBack (n .detail))))))
 
 -- A reason comes back from its number.
 reason-back : (reason : Reason) → reasonBack (reasonNumber reason) ≡ reason
@@ -68,7 +68,8 @@ refusal-back noRoom = refl
 outcome-back : (outcome : Outcome ℕ) → outcomeBack (outcomeNumbers outcome) ≡ outcome
 unfolding outcomeBack
 outcome-back ok = refl
-outcome-back (value v) = refl
+outcome-back (shows (value v)) = refl
+outcome-back (shows unset) = refl
 outcome-back committed = refl
 outcome-back (aborted reason) = ap aborted (reason-back reason)
 
@@ -87,6 +88,7 @@ outcomes-apart = read-back outcomeNumbers outcomeBack outcome-back
 -- No outcome has the kind of a refusal.
 pub outcome-no-refusal : (outcome : Outcome ℕ) (refusal : Refusal) → outcomeNumbers outcome ≡ refusalNumbers refusal → ⊥
 outcome-no-refusal ok refusal e = let kinds : _≡_ {A = ℕ} 0 4 = ap (λ n. n .kind) e in omega arith
-outcome-no-refusal (value v) refusal e = let kinds : _≡_ {A = ℕ} 1 4 = ap (λ n. n .kind) e in omega arith
+outcome-no-refusal (shows (value v)) refusal e = let kinds : _≡_ {A = ℕ} 1 4 = ap (λ n. n .kind) e in omega arith
+outcome-no-refusal (shows unset) refusal e = let kinds : _≡_ {A = ℕ} 5 4 = ap (λ n. n .kind) e in omega arith
 outcome-no-refusal committed refusal e = let kinds : _≡_ {A = ℕ} 2 4 = ap (λ n. n .kind) e in omega arith
 outcome-no-refusal (aborted reason) refusal e = let kinds : _≡_ {A = ℕ} 3 4 = ap (λ n. n .kind) e in omega arith

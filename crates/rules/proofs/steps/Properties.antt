@@ -3,7 +3,7 @@ use Prim.Native.Nat.{ℕ}
 use native.Mathlib.Omega.{arith}
 use mathlib.Core.Path.{_≡_, refl, ap}
 use Rattle.rules.specs.steps.Codes.{Step, begin, try, giveUp, read, write}
-use Rattle.rules.specs.steps.Replies.{Reason, gaveUp, Outcome, ok, value, committed, aborted, reasonNumber}
+use Rattle.rules.specs.steps.Replies.{Reason, gaveUp, Content, Outcome, ok, shows, committed, aborted, reasonNumber}
 use Rattle.rules.specs.steps.Register.{Setting, Handler, Register, withHandler, idle}
 use Rattle.rules.specs.steps.Figure.{Result, aborting, step}
 use Rattle.rules.proofs.steps.Tables.{put-other}
@@ -34,9 +34,9 @@ module _ {W : Type 0} where
   pub commit-no-abort : (reason : Reason) → _≡_ {A = Outcome W} committed (aborted reason) → ⊥
   commit-no-abort reason e = let z : _≡_ {A = ℕ} 0 1 = cc in omega arith
 
-  -- nor is a value.
-  pub value-no-abort : (v : W) (reason : Reason) → value v ≡ aborted reason → ⊥
-  value-no-abort v reason e = let z : _≡_ {A = ℕ} 0 1 = cc in omega arith
+  -- nor is what a read shows.
+  pub shows-no-abort : (v : Content W) (reason : Reason) → shows v ≡ aborted reason → ⊥
+  shows-no-abort v reason e = let z : _≡_ {A = ℕ} 0 1 = cc in omega arith
 
   -- Two aborts that are the same have one number.
   same-number : {a b : Reason} → _≡_ {A = Outcome W} (aborted a) (aborted b) → reasonNumber a ≡ reasonNumber b
@@ -74,9 +74,9 @@ module _ {W : Type 0} (S : Setting W) where
   abort-ends r i (write x) v reason = λ e. absurd (ok-no-abort reason e)
   abort-ends r i (read x) v reason =
       reading-cases S r i (r .handlers i) (EndsIdle r i reason) x
-      (λ copied e. absurd (value-no-abort _ reason e))
+      (λ copied e. absurd (shows-no-abort _ reason e))
       (λ first isTorn e. refl)
-      (λ first isTaken e. absurd (value-no-abort _ reason e))
+      (λ first isTaken e. absurd (shows-no-abort _ reason e))
   abort-ends r i try v reason =
       trying-cases S r i (r .handlers i) (EndsIdle r i reason)
       (λ stale e. refl) (λ current full e. refl) (λ current roomy e. absurd (commit-no-abort reason e))
@@ -95,9 +95,9 @@ module _ {W : Type 0} (S : Setting W) where
   only-give-up r i giveUp v = λ e. refl
   only-give-up r i (read x) v =
       reading-cases S r i (r .handlers i) (λ result. result .outcome ≡ aborted gaveUp → read x ≡ giveUp) x
-      (λ copied e. absurd (value-no-abort _ gaveUp e))
+      (λ copied e. absurd (shows-no-abort _ gaveUp e))
       (λ first isTorn e. let numbers : 1 ≡ 5 = same-number e in absurd (omega arith))
-      (λ first isTaken e. absurd (value-no-abort _ gaveUp e))
+      (λ first isTaken e. absurd (shows-no-abort _ gaveUp e))
   only-give-up r i try v =
       trying-cases S r i (r .handlers i) (λ result. result .outcome ≡ aborted gaveUp → try ≡ giveUp)
       (λ stale e. let numbers : 2 ≡ 5 = same-number e in absurd (omega arith))

@@ -1,13 +1,16 @@
--- What a read and a try come to, by cases, and which tests of Figure.antt decide it.
-use Prim.Native.Nat.{ℕ}
-use mathlib.Core.Path.{_≡_, sym, subst}
+-- What a read and a try come to, by cases, and which tests of Figure.antt decide it; what is shown after a first read, and of a stored cell.
+use Prim.Native.Nat.{ℕ, _+_}
+use native.Mathlib.Omega.{arith}
+use mathlib.Core.Path.{_≡_, refl, sym, subst}
 use mathlib.Core.Bool.{Bool, true, false, _||_}
-use Rattle.rules.specs.steps.Replies.{torn, overtaken, spent, value, committed, aborted}
-use Rattle.rules.specs.steps.Register.{Setting, Handler, Register, withHandler}
+use borrow.Author.Tests.{eq-eqb, ne-eqb}
+use Rattle.rules.specs.steps.Tables.{put}
+use Rattle.rules.specs.steps.Replies.{torn, overtaken, spent, Content, value, shows, committed, aborted}
+use Rattle.rules.specs.steps.Register.{Setting, Cell, Handler, Register, withHandler}
 use Rattle.rules.specs.steps.Checks.{firstHit}
-use Rattle.rules.specs.steps.Figure.{Result, joined, taken, shown, isTorn, isOvertaken, isSpent, aborting, committing}
-use Rattle.rules.specs.steps.Figure.{unlessAborted, readChecks, tryChecks, firstRead, reading, trying}
-use Rattle.rules.proofs.steps.Tables.{by, put-here}
+use Rattle.rules.specs.steps.Figure.{Result, joined, taken, versionShows, cellShows, shown, stamped, stored, isTorn, isOvertaken}
+use Rattle.rules.specs.steps.Figure.{isSpent, aborting, committing, unlessAborted, readChecks, tryChecks, firstRead, reading, trying}
+use Rattle.rules.proofs.steps.Tables.{by, or-right}
 
 module _ {W : Type 0} where
   -- A transaction after a first read of x, that is not torn.
@@ -18,27 +21,34 @@ module _ {W : Type 0} where
   abbrev pub tornAt : Setting W → Register W → Handler W → ℕ → Bool
   tornAt S r h x = isTorn S (joined h x (r .cells x)) (r .cells x)
 
+  -- What is shown of a cell that is read now, and that the transaction has not written, is what the cell shows.
+  pub taken-shows : (h : Handler W) (x : ℕ) (c : Cell W) → h .writtenSet x ≡ false → shown (taken (joined h x c) x c) x ≡ cellShows x c
+  unfolding shown taken joined put
+  taken-shows h x c unwritten = rw (unwritten, eq-eqb x x refl)
+
+  -- A cell that is stored shows the value written: its number is above 0.
+  pub stored-shows : (r : Register W) (h : Handler W) (x : ℕ) → h .writtenSet x ≡ true → cellShows x (stored r h x) ≡ value (h .copies x)
+  unfolding stored stamped versionShows
+  stored-shows r h x written = rw written (rw (written, ne-eqb (r .cells x .numbers x + 1) 0 (omega arith)))
+
 module _ {W : Type 0} (S : Setting W) (r : Register W) (i : ℕ) (h : Handler W) where
   -- What holds of a read of a cell that has a copy, of one that is torn and of one that is taken holds of the read.
   pub reading-cases : (Q : Result W → Type 0) (x : ℕ)
-      → (h .readSet x || h .writtenSet x ≡ true → Q (record { outcome = value (h .copies x); after = r }))
+      → (h .readSet x || h .writtenSet x ≡ true → Q (record { outcome = shows (shown h x); after = r }))
       → (h .readSet x || h .writtenSet x ≡ false → tornAt S r h x ≡ true
       → Q (record { outcome = aborted torn; after = aborting S r i h }))
       → (h .readSet x || h .writtenSet x ≡ false → tornAt S r h x ≡ false
-      → Q (record { outcome = value (r .cells x .value); after = withHandler r i (hasTaken r h x) }))
+      → Q (record { outcome = shows (cellShows x (r .cells x)); after = withHandler r i (hasTaken r h x) }))
       → Q (reading S r i h x)
-  unfolding reading firstRead readChecks firstHit unlessAborted shown
+  unfolding reading firstRead readChecks firstHit unlessAborted
   reading-cases Q x copied isTorn isTaken = by (h .readSet x || h .writtenSet x)
       (λ e. rw e (copied e))
       (λ e. rw e (by (tornAt S r h x)
       (λ t. rw t (isTorn e t))
-      (λ t. rw t (subst answers (sym copy-taken) (isTaken e t)))))
+      (λ t. rw t (subst answers (sym (taken-shows h x (r .cells x) (or-right (h .readSet x) (h .writtenSet x) e))) (isTaken e t)))))
     where
-      answers : W → Type 0
-      answers v = Q (record { outcome = value v; after = withHandler r i (hasTaken r h x) })
-
-      copy-taken : hasTaken r h x .copies x ≡ r .cells x .value
-      copy-taken = unfold taken in (put-here (joined h x (r .cells x) .copies) x (r .cells x .value))
+      answers : Content W → Type 0
+      answers v = Q (record { outcome = shows v; after = withHandler r i (hasTaken r h x) })
 
   -- What holds of a try that is overtaken, of one that is spent and of one that commits holds of the try.
   pub trying-cases : (Q : Result W → Type 0)

@@ -37,6 +37,10 @@ pub record Case : Type 0 where
 abbrev ok : Numbers
 ok = record { kind = 0; detail = 0 }
 
+-- Unset.
+abbrev unset : Numbers
+unset = record { kind = 5; detail = 0 }
+
 -- A value.
 abbrev value : ℕ → Numbers
 value v = record { kind = 1; detail = v }
@@ -116,7 +120,7 @@ cases =
     record {
       start = opened 2 2 26 ok;
       lines =
-          line 0 0 ok ∷ line 0 32 (value 0) ∷
+          line 0 0 ok ∷ line 0 32 unset ∷
           line 1 0 ok ∷ write 1 64 5 ∷ line 1 1 commit ∷
           line 0 1 (abort 2) ∷ [];
       end = register (cell 5 1 0 ∷ cell 0 0 0 ∷ []) (rests 0 0 ∷ rests 1 0 ∷ []) [];
@@ -125,7 +129,7 @@ cases =
     record {
       start = opened 2 2 26 ok;
       lines =
-          line 0 0 ok ∷ line 0 32 (value 0) ∷ write 0 64 3 ∷
+          line 0 0 ok ∷ line 0 32 unset ∷ write 0 64 3 ∷
           line 1 0 ok ∷ write 1 64 5 ∷ line 1 1 commit ∷
           line 0 1 (abort 2) ∷ [];
       end = register (cell 5 1 0 ∷ cell 0 0 0 ∷ []) (rests 0 0 ∷ rests 1 0 ∷ []) [];
@@ -134,7 +138,7 @@ cases =
     record {
       start = opened 2 2 26 ok;
       lines =
-          line 0 0 ok ∷ line 0 32 (value 0) ∷
+          line 0 0 ok ∷ line 0 32 unset ∷
           line 1 0 ok ∷ write 1 64 5 ∷ write 1 65 7 ∷ line 1 1 commit ∷
           line 0 33 (abort 1) ∷ [];
       end = register (cell 5 1 1 ∷ cell 7 1 1 ∷ []) (rests 0 0 ∷ rests 1 1 ∷ []) [];
@@ -143,7 +147,7 @@ cases =
     record {
       start = opened 2 3 35 ok;
       lines =
-          line 0 0 ok ∷ line 0 32 (value 0) ∷
+          line 0 0 ok ∷ line 0 32 unset ∷
           line 1 0 ok ∷ write 1 64 5 ∷ line 1 1 commit ∷
           line 2 0 ok ∷ line 2 32 (value 5) ∷ write 2 65 6 ∷ line 2 1 commit ∷
           line 0 33 (abort 1) ∷ [];
@@ -153,7 +157,7 @@ cases =
     record {
       start = opened 2 2 26 ok;
       lines =
-          line 0 0 ok ∷ line 0 32 (value 0) ∷
+          line 0 0 ok ∷ line 0 32 unset ∷
           line 1 0 ok ∷ write 1 64 5 ∷ line 1 1 commit ∷
           line 1 0 ok ∷ write 1 65 6 ∷ line 1 1 commit ∷
           line 0 33 (abort 1) ∷ [];
@@ -163,7 +167,7 @@ cases =
     record {
       start = opened 2 3 35 ok;
       lines =
-          line 0 0 ok ∷ line 0 32 (value 0) ∷
+          line 0 0 ok ∷ line 0 32 unset ∷
           line 1 0 ok ∷ write 1 64 5 ∷ line 1 1 commit ∷
           line 2 0 ok ∷ write 2 65 6 ∷ line 2 1 commit ∷
           line 0 33 (value 6) ∷ line 0 1 (abort 2) ∷ [];
@@ -229,7 +233,7 @@ cases =
     record {
       start = opened 2 2 26 ok;
       lines =
-          line 0 0 ok ∷ line 0 32 (value 0) ∷ write 0 64 3 ∷ line 0 32 (value 3) ∷
+          line 0 0 ok ∷ line 0 32 unset ∷ write 0 64 3 ∷ line 0 32 (value 3) ∷
           line 1 0 ok ∷ write 1 64 5 ∷ line 1 1 commit ∷
           line 0 1 (abort 2) ∷ [];
       end = register (cell 5 1 0 ∷ cell 0 0 0 ∷ []) (rests 0 0 ∷ rests 1 0 ∷ []) [];
@@ -254,6 +258,21 @@ cases =
           line 1 0 ok ∷ write 1 65 6 ∷ line 1 1 commit ∷
           line 0 1 (abort 2) ∷ [];
       end = register (cell 0 65535 0 ∷ cell 6 0 2 ∷ []) (rests 4 0 ∷ rests 0 2 ∷ []) [];
+    } ∷
+    -- a cell that was written as 0 reads as 0, and one that was never written as unset, until the transaction itself writes it
+    record {
+      start = opened 2 1 17 ok;
+      lines =
+          line 0 0 ok ∷ write 0 64 0 ∷ line 0 1 commit ∷
+          line 0 0 ok ∷ line 0 32 (value 0) ∷ line 0 32 (value 0) ∷ line 0 33 unset ∷ line 0 33 unset ∷
+          write 0 65 0 ∷ line 0 33 (value 0) ∷ [];
+      end = register (cell 0 1 0 ∷ cell 0 0 0 ∷ []) ((1 ∷ 3 ∷ 2 ∷ 1 ∷ 0 ∷ 1 ∷ 0 ∷ 0 ∷ 0 ∷ []) ∷ []) [];
+    } ∷
+    -- on a register that no run leads to, a read is unset by the number alone, whatever the cell or the copy holds, and both stay as they were
+    record {
+      start = given (2 ∷ 1 ∷ (cell 9 0 0 ++ (cell 8 0 0 ++ (1 ∷ 1 ∷ 0 ∷ 0 ∷ 0 ∷ 0 ∷ 0 ∷ 7 ∷ 6 ∷ []))));
+      lines = line 0 32 unset ∷ line 0 33 unset ∷ line 0 33 unset ∷ [];
+      end = register (cell 9 0 0 ∷ cell 8 0 0 ∷ []) ((1 ∷ 3 ∷ 0 ∷ 0 ∷ 0 ∷ 0 ∷ 0 ∷ 7 ∷ 8 ∷ []) ∷ []) [];
     } ∷
     -- words 0 and 1 huge
     record {

@@ -8,6 +8,7 @@ use mathlib.Core.Logic.{_↔_}
 use Rattle.rules.specs.steps.Codes.{known, read}
 use Rattle.rules.specs.steps.Replies.{torn, Outcome, aborted, Reply, reported}
 use Rattle.rules.specs.steps.Register.{Setting, Register, fresh}
+use Rattle.rules.specs.steps.Figure.{cellShows}
 use Rattle.rules.specs.steps.Turn.{turn}
 use Rattle.rules.specs.history.History.{History, hasRead, hasWritten, writer, noHistory, noteReply}
 use Rattle.rules.specs.history.Past.{Tears}
@@ -59,8 +60,8 @@ pub record FirstRead {W : Type 0} (S : Setting W) (n : ℕ) (h : History W) (i c
 
 -- A register and a history agree with the third demand:
 pub record Consistent {W : Type 0} (S : Setting W) (n : ℕ) (r : Register W) (h : History W) : Type 0 where
-  -- (a) and (b), with the cells as the table that the history leads to;
-  pub legal : Legal S h (λ x. r .cells x .value)
+  -- (a) and (b), with what the cells show as the table that the history leads to;
+  pub legal : Legal h (λ x. cellShows x (r .cells x))
   -- (c) a first read is answered abort 1 exactly when the writer of the cell's present value, or a commit in that writer's
   -- causal past, wrote a later version than one already read
   pub tornExactly : (i code x : ℕ) (v : W) → FirstRead S n h i code x

@@ -8,7 +8,7 @@ use mathlib.Core.Option.{Option, none, some}
 use lib.Dec.{eqb}
 use Rattle.rules.specs.steps.Tables.{if_then_else_, put, someBelow}
 use Rattle.rules.specs.steps.Codes.{Step, begin, try, giveUp, read, write, Kind, known, unknown}
-use Rattle.rules.specs.steps.Replies.{Reason, torn, overtaken, spent, gaveUp, Outcome, ok, value, committed, aborted}
+use Rattle.rules.specs.steps.Replies.{Reason, torn, overtaken, spent, gaveUp, Content, unset, value, Outcome, ok, shows, committed, aborted}
 use Rattle.rules.specs.steps.Replies.{Refusal, unknownStep, Reply}
 use Rattle.rules.specs.steps.Register.{Setting, Register}
 use Rattle.rules.specs.steps.Checks.{_when_, firstHit, Asked, asking, stepChecks}
@@ -36,12 +36,12 @@ module _ {W : Type 0} where
 
   -- ── Each reply ──────────────────────────────────────────────────────
 
-  -- The copies that a transaction has made by its deeds.
-  unfoldable pub copied : Setting W → List (Deed W) → ℕ → W
-  copied S [] = λ _. S .empty
-  copied S (look y source v ∷ deeds) = put (copied S deeds) y v
-  copied S (again y v ∷ deeds) = copied S deeds
-  copied S (set y v ∷ deeds) = put (copied S deeds) y v
+  -- What the copies that a transaction has made by its deeds show.
+  unfoldable pub copied : List (Deed W) → ℕ → Content W
+  copied [] = λ _. unset
+  copied (look y source v ∷ deeds) = put (copied deeds) y v
+  copied (again y v ∷ deeds) = copied deeds
+  copied (set y v ∷ deeds) = put (copied deeds) y (value v)
 
   -- The version of y that these deeds read is not the present one.
   unfoldable pub stale : List (Commit W) → List (Deed W) → ℕ → Bool
@@ -60,9 +60,9 @@ module _ {W : Type 0} (S : Setting W) where
   -- The answer to a read of x: its copy, or abort 1, or what all commits leave there.
   unfoldable pub answerRead : List (Commit W) → List (Deed W) → ℕ → Outcome W
   answerRead commits deeds x =
-      if hasRead deeds x || hasWritten deeds x then (value (copied S deeds x))
+      if hasRead deeds x || hasWritten deeds x then (shows (copied deeds x))
       else (orAborted (firstHit ((torn when tears (S .cellCount) commits deeds (writer commits x)) ∷ []))
-      (value (replay S commits everyCommit x)))
+      (shows (replay commits everyCommit x)))
 
   -- The answer to a try: abort 2, or abort 3, or commit.
   unfoldable pub answerTry : List (Commit W) → List (Deed W) → Outcome W
@@ -98,7 +98,7 @@ module _ {W : Type 0} (S : Setting W) where
 pub record Overtaken {W : Type 0} (commits : List (Commit W)) (deeds : List (Deed W)) : Type 0 where
   pub cell : ℕ
   pub source : ℕ
-  pub value : W
+  pub value : Content W
   pub sooner : List (Deed W)
   pub reads : Stands deeds (look cell source value) sooner
   pub passed : source ≡ writer commits cell → ⊥

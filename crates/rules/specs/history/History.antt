@@ -7,15 +7,15 @@ use lib.ListN.{length}
 use lib.Dec.{eqb}
 use Rattle.rules.specs.steps.Tables.{if_then_else_, put}
 use Rattle.rules.specs.steps.Codes.{Step, begin, try, giveUp, read, write, Kind, known, unknown}
-use Rattle.rules.specs.steps.Replies.{Outcome, ok, value, committed, aborted, Reply, reported}
+use Rattle.rules.specs.steps.Replies.{Content, Outcome, ok, shows, committed, aborted, Reply, reported}
 
 -- What a transaction did in one step. A commit is named by its place in the order of commits, counted from 1; 0 names the
 -- opening, which gave each cell its first version and is nobody's.
 pub data Deed (W : Type 0) : Type 0 where
-  -- it read from the cells: the cell, the source (which wrote the version read), and the value replied
-  look : ℕ → ℕ → W → Deed W
-  -- it read a cell that it had already read or written: the cell, and the value replied
-  again : ℕ → W → Deed W
+  -- it read from the cells: the cell, the source (which wrote the version read), and what was shown
+  look : ℕ → ℕ → Content W → Deed W
+  -- it read a cell that it had already read or written: the cell, and what was shown
+  again : ℕ → Content W → Deed W
   -- it wrote: the cell, and the value
   set : ℕ → W → Deed W
 
@@ -87,8 +87,8 @@ module _ {W : Type 0} where
   doing h i deeds =
       record { commits = h .commits; aborts = h .aborts; opened = put (h .opened) i true; now = put (h .now) i deeds }
 
-  -- A read of x that was answered with v: from the cells, where the source wrote x, unless x was already read or written.
-  unfoldable pub readDeed : List (Deed W) → ℕ → ℕ → W → Deed W
+  -- A read of x that showed v: from the cells, where the source wrote x, unless x was already read or written.
+  unfoldable pub readDeed : List (Deed W) → ℕ → ℕ → Content W → Deed W
   readDeed deeds source x v = if hasRead deeds x || hasWritten deeds x then (again x v) else (look x source v)
 
   -- An answer ok, which only a begin and a write get.
@@ -99,13 +99,13 @@ module _ {W : Type 0} where
   noteOk h i try v = h
   noteOk h i giveUp v = h
 
-  -- An answer with a value, which only a read gets; the sources are the writers of what the cells hold.
-  unfoldable pub noteValue : (ℕ → ℕ) → History W → ℕ → Step → W → History W
-  noteValue source h i (read x) v = doing h i (readDeed (h .now i) (source x) x v ∷ h .now i)
-  noteValue source h i (write x) v = h
-  noteValue source h i begin v = h
-  noteValue source h i try v = h
-  noteValue source h i giveUp v = h
+  -- An answer that shows something, which only a read gets; the sources are the writers of what the cells hold.
+  unfoldable pub noteShown : (ℕ → ℕ) → History W → ℕ → Step → Content W → History W
+  noteShown source h i (read x) v = doing h i (readDeed (h .now i) (source x) x v ∷ h .now i)
+  noteShown source h i (write x) v = h
+  noteShown source h i begin v = h
+  noteShown source h i try v = h
+  noteShown source h i giveUp v = h
 
   -- Handler i's open transaction, as the commit that it may become.
   abbrev pub transaction : History W → ℕ → Commit W
@@ -128,7 +128,7 @@ module _ {W : Type 0} where
   -- The history after handler i's step, with a value where it is a write, came to an outcome.
   unfoldable pub note : History W → ℕ → Step → W → Outcome W → History W
   note h i step v ok = noteOk h i step v
-  note h i step v (value w) = noteValue (writer (h .commits)) h i step w
+  note h i step v (shows w) = noteShown (writer (h .commits)) h i step w
   note h i step v committed = noteCommit h i
   note h i step v (aborted reason) = noteAbort h i
 

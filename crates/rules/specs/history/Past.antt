@@ -6,6 +6,7 @@ use mathlib.Core.Bool.{Bool, true, false, _&&_, _||_}
 use mathlib.Core.List.{List, [], _∷_}
 use lib.Dec.{eqb, ltb}
 use Rattle.rules.specs.steps.Tables.{if_then_else_, someBelow}
+use Rattle.rules.specs.steps.Replies.{Content}
 use Rattle.rules.specs.history.History.{Deed, look, Commit, someLook, hasWritten, placeAfter}
 
 -- ── As relations ──────────────────────────────────────────────────────
@@ -21,7 +22,7 @@ pub data InPast {W : Type 0} : List (Commit W) → ℕ → List (Deed W) → ℕ
   own : {commits earlier : List (Commit W)} {c : Commit W} {i : ℕ} {deeds : List (Deed W)}
       → Stands commits c earlier → c .handler ≡ i → InPast commits i deeds (placeAfter earlier)
   -- the commits whose versions it read from the cells,
-  drew : {commits earlier : List (Commit W)} {c : Commit W} {i y : ℕ} {v : W} {deeds sooner : List (Deed W)}
+  drew : {commits earlier : List (Commit W)} {c : Commit W} {i y : ℕ} {v : Content W} {deeds sooner : List (Deed W)}
       → Stands commits c earlier → Stands deeds (look y (placeAfter earlier) v) sooner
       → InPast commits i deeds (placeAfter earlier)
   -- and their pasts
@@ -49,7 +50,7 @@ pub record Later {W : Type 0} (commits : List (Commit W)) (Included : ℕ → Ty
 pub record Outdated {W : Type 0} (commits : List (Commit W)) (Included : ℕ → Type 0) (deeds : List (Deed W)) (y : ℕ)
     : Type 0 where
   pub source : ℕ
-  pub value : W
+  pub value : Content W
   pub sooner : List (Deed W)
   pub reads : Stands deeds (look y source value) sooner
   pub passed : Later commits Included y source

@@ -6,7 +6,7 @@ use mathlib.Core.Option.{Option, none, some}
 use lib.Dec.{eqb, ltb}
 use Rattle.rules.specs.steps.Tables.{if_then_else_, put, someBelow}
 use Rattle.rules.specs.steps.Codes.{Step, begin, try, giveUp, read, write}
-use Rattle.rules.specs.steps.Replies.{Reason, torn, overtaken, spent, gaveUp, Outcome, ok, value, committed, aborted}
+use Rattle.rules.specs.steps.Replies.{Reason, torn, overtaken, spent, gaveUp, Content, unset, value, Outcome, ok, shows, committed, aborted}
 use Rattle.rules.specs.steps.Register.{Setting, Cell, Handler, Register, withHandler, noCells, idle}
 use Rattle.rules.specs.steps.Checks.{Check, _when_, firstHit}
 
@@ -50,9 +50,17 @@ module _ {W : Type 0} where
     copies = put (h .copies) x v;
   }
 
-  -- Line 07: what a read of X replies, once there is a local copy.
-  unfoldable pub shown : Handler W → ℕ → Outcome W
-  shown h x = value (h .copies x)
+  -- What a version of a number shows: the opening's, which has number 0, nothing.
+  unfoldable pub versionShows : ℕ → W → Content W
+  versionShows number v = if eqb number 0 then unset else (value v)
+
+  -- What the cell X shows, by its own number.
+  abbrev pub cellShows : ℕ → Cell W → Content W
+  cellShows x c = versionShows (c .numbers x) (c .value)
+
+  -- Line 07: what a read of X shows, once there is a local copy: its own write, or else the version that it holds.
+  unfoldable pub shown : Handler W → ℕ → Content W
+  shown h x = if h .writtenSet x then (value (h .copies x)) else (versionShows (h .transaction x) (h .copies x))
 
   -- Line 13: each written cell's transaction number becomes its own number plus 1.
   unfoldable pub stamped : Register W → Handler W → ℕ → ℕ
@@ -117,12 +125,12 @@ module _ {W : Type 0} (S : Setting W) where
   unfoldable pub firstRead : Register W → ℕ → Handler W → ℕ → Cell W → Result W
   firstRead r i h x c =
       let next = taken (joined h x c) x c in
-      unlessAborted r i h (firstHit (readChecks (joined h x c) c)) (record { outcome = shown next x; after = withHandler r i next })
+      unlessAborted r i h (firstHit (readChecks (joined h x c) c)) (record { outcome = shows (shown next x); after = withHandler r i next })
 
   -- Read of X, X in either set: the local copy. Otherwise the first read.
   unfoldable pub reading : Register W → ℕ → Handler W → ℕ → Result W
   reading r i h x =
-      if h .readSet x || h .writtenSet x then (record { outcome = shown h x; after = r })
+      if h .readSet x || h .writtenSet x then (record { outcome = shows (shown h x); after = r })
       else (firstRead r i h x (r .cells x))
 
   -- Try.

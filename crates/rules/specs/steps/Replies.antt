@@ -13,10 +13,15 @@ pub data Reason : Type 0 where
   -- its handler gave it up
   gaveUp : Reason
 
+-- What is shown of a cell: nothing where it was never written, and else its value.
+pub data Content (W : Type 0) : Type 0 where
+  unset : Content W
+  value : W → Content W
+
 -- What a step that is taken comes to.
 pub data Outcome (W : Type 0) : Type 0 where
   ok : Outcome W
-  value : W → Outcome W
+  shows : Content W → Outcome W
   committed : Outcome W
   aborted : Reason → Outcome W
 
@@ -70,15 +75,20 @@ refusalNumber tooManyCommits = 33
 refusalNumber sheetFull = 41
 refusalNumber noRoom = 42
 
--- An answer in numbers: its kind (0 ok, 1 value, 2 commit, 3 abort, 4 refused), and its value or number, 0 where there is none.
+-- An answer in numbers: its kind (0 ok, 1 value, 2 commit, 3 abort, 4 refused, 5 unset), and its value or number, 0 where there is none.
 pub record Numbers : Type 0 where
   pub kind : ℕ
   pub detail : ℕ
 
+-- What is shown of a cell, in numbers.
+abbrev pub contentNumbers : Content ℕ → Numbers
+contentNumbers (value v) = record { kind = 1; detail = v }
+contentNumbers unset = record { kind = 5; detail = 0 }
+
 -- An outcome in numbers, where the values are numbers.
 abbrev pub outcomeNumbers : Outcome ℕ → Numbers
 outcomeNumbers ok = record { kind = 0; detail = 0 }
-outcomeNumbers (value v) = record { kind = 1; detail = v }
+outcomeNumbers (shows content) = contentNumbers content
 outcomeNumbers committed = record { kind = 2; detail = 0 }
 outcomeNumbers (aborted reason) = record { kind = 3; detail = reasonNumber reason }
 

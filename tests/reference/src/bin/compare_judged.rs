@@ -1,7 +1,7 @@
 //! Compares a proved judge with the proved runner, whose lines it prints up to a 65th commit, and with this crate's judge: on the
 //! examples, on directed schedules, at borders and on random files.
 //! Arguments: the paths of runner, judge and examples, a seed, how many sound files, how many damaged ones.
-use reference::counts::Counts;
+use reference::counts::{Counts, READS};
 use reference::directed::{self, Directed};
 use reference::judge::{self, Judged, MOST};
 use reference::random::Random;
@@ -13,10 +13,9 @@ use std::path::Path;
 use std::process::exit;
 use std::time::Instant;
 
-/// What the random files have to meet, each at least once.
-const KINDS: [&str; 24] = [
+/// What the random files have to meet besides the kinds of read, each at least once.
+const KINDS: [&str; 23] = [
     "ok",
-    "value",
     "commit",
     "abort 1",
     "abort 2",
@@ -90,7 +89,7 @@ impl Comparison {
                 Reply::Abort(1) if noted == MOST => counts.note("abort 1 after 64 commits"),
                 Reply::Abort(2) if noted == MOST => counts.note("abort 2 after 64 commits"),
                 Reply::Abort(5) if noted == MOST => counts.note("abort 5 after 64 commits"),
-                Reply::Ok | Reply::Value(_) if noted == MOST => counts.note("other step after 64 commits"),
+                Reply::Ok | Reply::Value(_) | Reply::Unset if noted == MOST => counts.note("other step after 64 commits"),
                 Reply::Refused(number) if noted == MOST && number < 33 => counts.note("refusal after 64 commits"),
                 _ => (),
             }
@@ -188,7 +187,7 @@ fn main() {
     println!("{sound} sound and {damaged} damaged files, {lines} lines, {aborts_1} aborts 1, {aborts_2} aborts 2, no difference");
     println!("{cut} files cut at a 65th commit, {full} of exactly 64 commits");
     println!("each kind: {}", counts.shown());
-    let lacking = counts.lacking(&[&KINDS[..], &LINKS[..]].concat());
+    let lacking = counts.lacking(&[&KINDS[..], &LINKS[..], &READS[..]].concat());
     if !lacking.is_empty() {
         fail(&format!("the random files had no {}", lacking.join(", no ")));
     }

@@ -2,18 +2,21 @@
 //! the number given and every word compared, with sentinel words around all three. Arguments: a seed, how many rows.
 use reference::counts::Counts;
 use reference::random::Random;
+use reference::reads::{self, READS};
 use reference::register::Reply;
 use reference::row::{self, REPORT_WORDS, STEP_WORDS};
 use reference::{proved, register, registers};
 use std::process::exit;
 
 /// What a comparison has to meet, or it shows nothing of it.
-const NEEDED: [&str; 27] = [
+const NEEDED: [&str; 29] = [
     "row 0",
     "row 10",
     "row 42",
     "ok",
     "value",
+    "value 0",
+    "unset",
     "commit",
     "abort 1",
     "abort 2",
@@ -94,14 +97,14 @@ fn likely(random: &mut Random, words: &[u32]) -> [u32; STEP_WORDS] {
         5..=6 => 1,
         _ => 2,
     };
-    [handler, code, random.word()]
+    [handler, code, registers::value(random)]
 }
 
 /// A step of any kind, of a register of m cells and n handlers.
 fn any(random: &mut Random, m: u32, n: u32) -> [u32; STEP_WORDS] {
     let handler = if random.once_in(12) { random.one_of(&[256, 1 << 16, u32::MAX]) } else { registers::handler(random, n) };
     let code = if random.once_in(12) { 256 + random.below(256) as u32 } else { registers::code(random, m) };
-    [handler, code, random.word()]
+    [handler, code, registers::value(random)]
 }
 
 /// The words of a row of steps, which mostly make sense on the register one after another; the last step may be cut short.
@@ -162,6 +165,19 @@ fn note(met: &mut Counts, given: &Given, after: &Given, number: u32) {
     }
     if number == 0 {
         reported(met, given.steps.words(), &after.reports.words()[given.place..]);
+        read(met, given);
+    }
+}
+
+/// Which words the reads of a row found, step by step as this crate takes them.
+fn read(met: &mut Counts, given: &Given) {
+    let mut words = given.register.words().to_vec();
+    for step in given.steps.words().chunks_exact(STEP_WORDS) {
+        let before = words.clone();
+        let reply = register::formed_step(&mut words, step[0], step[1], step[2]);
+        if let Some(read) = reads::name(&before, step[0], step[1], reply) {
+            met.note(read);
+        }
     }
 }
 
@@ -182,9 +198,10 @@ fn reported(met: &mut Counts, steps: &[u32], reports: &[u32]) {
             1 => Reply::Value(report[3]),
             2 => Reply::Commit,
             3 => Reply::Abort(report[3]),
-            _ => Reply::Refused(report[3]),
+            4 => Reply::Refused(report[3]),
+            _ => Reply::Unset,
         };
-        met.note(if let Reply::Value(_) = reply { "value".into() } else { reply.to_string() }.as_str());
+        met.note(if let Reply::Value(1..) = reply { "value".into() } else { reply.to_string() }.as_str());
     }
 }
 
@@ -239,9 +256,9 @@ fn main() {
             Given { register: Lent::of(&left.0), steps: Lent::of(&steps), reports: Lent::of(&reports), place: place_of_reports };
         left.0 = compare(&mut met, &format!("seed {seed}, row {place}"), &given);
     }
-    let lacking = met.lacking(&NEEDED);
+    let lacking = met.lacking(&[&NEEDED[..], &READS[..]].concat());
     if !lacking.is_empty() {
-        println!("seed {seed}: never met, so that nothing is shown of it: {}", lacking.join(", "));
+        println!("seed {seed}: never met, so that nothing is shown of it: {}", lacking.join("; "));
         exit(1);
     }
     println!("seed {seed}: {rows} rows, no difference; {}", met.shown());

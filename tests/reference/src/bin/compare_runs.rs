@@ -1,6 +1,7 @@
-//! Compares a proved runner with this crate's, line for line, on schedule files at the borders and on random ones.
+//! Compares a proved runner with this crate's, line for line, on schedule files at the borders and on random ones, which have to show unset
+//! and 0 in each kind of read and in cells at the end.
 //! Arguments: the runner's path, a seed, how many sound files, how many damaged ones.
-use reference::counts::Counts;
+use reference::counts::{Counts, READS};
 use reference::random::Random;
 use reference::{generate, lines, program, runner};
 use std::process::exit;
@@ -28,6 +29,11 @@ fn main() {
         let printed = program::printed_by(proved, &file, program::piece(&mut random, &file));
         let what = format!("seed {seed}, file {place} ({kind})");
         program::demand(&what, &file, &printed, "reference", &lines::shown(run.as_ref()));
+    }
+    let lacking = counts.lacking(&READS);
+    if !lacking.is_empty() {
+        println!("seed {seed}: never met, so that nothing is shown of it: {}", lacking.join(", "));
+        exit(1);
     }
     let counts = counts.shown();
     println!("seed {seed}: {fixed} files at borders, {sound} sound and {damaged} damaged ones, no difference; {counts}");

@@ -1,8 +1,10 @@
 //! Compares the proved whole runs, `zidlemowo_run` and `zidlemowo_judge`, with this crate's runner and judge: the same files, each
-//! into an output of some length, the length given and every byte of the output compared.
+//! into an output of some length, the length given and every byte of the output compared. The texts have to show unset and 0 in each kind of
+//! read and in cells at the end.
 //! Arguments: a seed, how many sound files, how many damaged ones.
+use reference::counts::{self, READS};
 use reference::random::Random;
-use reference::{generate, hexadecimal, histories, judge, proved, runner};
+use reference::{generate, hexadecimal, histories, judge, lines, proved, runner};
 use std::process::exit;
 
 /// What fills an output before a call. No text has such a byte.
@@ -61,7 +63,7 @@ fn main() {
     let arguments: Vec<u64> = std::env::args().skip(1).map(|word| word.parse().expect("a number")).collect();
     let [seed, sound, damaged] = arguments[..] else { panic!("a seed, sound files, damaged ones") };
     let mut random = Random::new(seed);
-    let mut counts = Counts::default();
+    let (mut counts, mut met) = (Counts::default(), counts::Counts::default());
     let borders = generate::borders();
     let fixed = borders.len() as u64;
     for place in 0..fixed + sound + damaged {
@@ -72,8 +74,15 @@ fn main() {
             None => ("sound", generate::sound(&mut random)),
         };
         let what = format!("seed {seed}, file {place} ({kind})");
-        counts.compare(&mut random, &format!("{what}, run"), &file, runner::printed(&file).as_bytes(), proved::run);
+        let run = runner::run(&file);
+        met.answers(run.as_ref());
+        counts.compare(&mut random, &format!("{what}, run"), &file, lines::shown(run.as_ref()).as_bytes(), proved::run);
         counts.compare(&mut random, &format!("{what}, judged"), &file, judge::printed(&file).as_bytes(), proved::judge);
+    }
+    let lacking = met.lacking(&READS);
+    if !lacking.is_empty() {
+        println!("seed {seed}: never met, so that nothing is shown of it: {}", lacking.join(", "));
+        exit(1);
     }
     let Counts { whole, cut, bytes } = counts;
     println!(

@@ -1,6 +1,9 @@
-//! Compares the proved register with this crate's, word for word: the same random words and steps, every reply and every word.
-//! Arguments: a seed, how many well-formed registers, how many malformed ones.
+//! Compares the proved register with this crate's, word for word: the same random words and steps, every reply and every word. Each kind of
+//! read has to be met, of cells and copies that are unset and of ones that are 0. Arguments: a seed, how many well-formed registers, how many
+//! malformed ones.
+use reference::counts::Counts;
 use reference::random::Random;
+use reference::reads::{self, READS};
 use reference::{proved, register, registers};
 use std::fmt::Arguments;
 use std::process::exit;
@@ -21,17 +24,20 @@ fn demand(call: Arguments, before: &[u32], proved: (u64, &[u32]), reference: (u6
 }
 
 /// Some steps on the same words by both, each reply and all words compared.
-fn steps(random: &mut Random, words: &[u32], count: u64) -> u64 {
+fn steps(random: &mut Random, met: &mut Counts, words: &[u32], count: u64) -> u64 {
     let (mut ours, mut theirs) = (words.to_vec(), words.to_vec());
     for _ in 0..count {
         let before = ours.clone();
         let n = before.get(1).copied().unwrap_or(1).clamp(1, 16);
         let handler = registers::handler(random, n);
-        let (code, value) = (registers::code(random, before.first().copied().unwrap_or(1)), random.word());
+        let (code, value) = (registers::code(random, before.first().copied().unwrap_or(1)), registers::value(random));
         let reply = proved::step(&mut ours, handler, code, value);
-        let expected = register::step(&mut theirs, handler, code, value).packed();
+        let expected = register::step(&mut theirs, handler, code, value);
         let call = format_args!("step: handler {handler} code {code} value {value}");
-        demand(call, &before, (reply, &ours), (expected, &theirs));
+        demand(call, &before, (reply, &ours), (expected.packed(), &theirs));
+        if let Some(read) = reads::name(&before, handler, code, expected) {
+            met.note(read);
+        }
     }
     count
 }
@@ -57,23 +63,29 @@ fn main() {
     let arguments: Vec<u64> = std::env::args().skip(1).map(|word| word.parse().expect("a number")).collect();
     let [seed, good, bad] = arguments[..] else { panic!("seed, well-formed registers, malformed ones") };
     let mut random = Random::new(seed);
-    let mut taken = 0;
+    let (mut taken, mut met) = (0, Counts::default());
     for _ in 0..good {
         let (m, n) = size(&mut random);
         let words = registers::well_formed(&mut random, m, n);
         let count = random.within(1, 8);
-        taken += steps(&mut random, &words, count);
+        taken += steps(&mut random, &mut met, &words, count);
     }
     for _ in 0..bad {
         let (m, n) = size(&mut random);
         let words = registers::malformed(&mut random, m, n);
-        taken += steps(&mut random, &words, 1);
+        taken += steps(&mut random, &mut met, &words, 1);
     }
     for _ in 0..good / 10 {
         opening(&mut random);
     }
+    let lacking = met.lacking(&READS);
+    if !lacking.is_empty() {
+        println!("seed {seed}: never met, so that nothing is shown of it: {}", lacking.join("; "));
+        exit(1);
+    }
     println!(
-        "seed {seed}: {good} well-formed and {bad} malformed registers, {taken} steps, {} openings: no difference",
-        good / 10
+        "seed {seed}: {good} well-formed and {bad} malformed registers, {taken} steps, {} openings: no difference; {}",
+        good / 10,
+        met.shown()
     );
 }

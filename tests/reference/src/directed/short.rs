@@ -2,7 +2,7 @@
 //! neighbour of nearly the same steps that is answered the other way.
 
 /// Short schedules: what they show, their steps, and what the last one comes to. All have 4 handlers and 4 cells.
-pub(super) const SHORT: [(&str, &str, &str); 38] = [
+pub(super) const SHORT: [(&str, &str, &str); 46] = [
     ("the version's own commit", "0:begin,read0 1:begin,write0=5,write1=7,try 0:read1", "abort 1"),
     ("a commit that it read", "0:begin,read0 1:begin,write0=5,try 2:begin,read0,write1=6,try 0:read1", "abort 1"),
     (
@@ -61,14 +61,16 @@ pub(super) const SHORT: [(&str, &str, &str); 38] = [
         "0:begin,read0 1:begin,write0=5,write2=6,try 3:begin,write1=1,try 2:begin,read1,read2,write3=7,try 0:read3",
         "abort 1",
     ),
-    ("both from the opening", "0:begin,read0 1:begin,write0=5,try 0:read1", "value 0"),
+    ("both from the opening", "0:begin,read0 1:begin,write0=5,try 0:read1", "unset"),
     ("the middle one of three reads", "0:begin,read0,read1,read2 1:begin,write1=5,write3=6,try 0:read3", "abort 1"),
-    ("the same value again, read", "0:begin,read0 1:begin,write0=0,write1=0,try 0:read1", "abort 1"),
-    ("the same value again, tried", "0:begin,read0 1:begin,write0=0,try 0:try", "abort 2"),
+    ("the same value again, read", "1:begin,write0=0,try 0:begin,read0 1:begin,write0=0,write1=0,try 0:read1", "abort 1"),
+    ("the same value again, tried", "1:begin,write0=0,try 0:begin,read0 1:begin,write0=0,try 0:try", "abort 2"),
+    ("0 where nothing was, read", "0:begin,read0 1:begin,write0=0,write1=0,try 0:read1", "abort 1"),
+    ("0 where nothing was, tried", "0:begin,read0 1:begin,write0=0,try 0:try", "abort 2"),
     ("a cell that it wrote and didn't read", "0:begin,write0=9 1:begin,write0=5,write1=7,try 0:read1", "value 7"),
     ("a cell that it wrote and read then", "0:begin,write0=9,read0 1:begin,write0=5,write1=7,try 0:read1", "value 7"),
     ("a cell that it read and wrote then", "0:begin,read0,write0=9 1:begin,write0=5,write1=7,try 0:read1", "abort 1"),
-    ("a repeated read", "0:begin,read0,read1 1:begin,write0=5,write1=7,try 0:read1", "value 0"),
+    ("a repeated read", "0:begin,read0,read1 1:begin,write0=5,write1=7,try 0:read1", "unset"),
     ("a read of its own write", "0:begin,read0,write1=9 1:begin,write0=5,write1=7,try 0:read1", "value 9"),
     (
         "the writer had read its own write",
@@ -101,8 +103,14 @@ pub(super) const SHORT: [(&str, &str, &str); 38] = [
         "0:begin,read0 1:begin,write0=5,write1=6,try 2:begin,read1,give-up,begin,write2=7,try 0:read2",
         "value 7",
     ),
-    ("a write that was given up", "1:begin,write1=5,give-up 0:begin,read1", "value 0"),
+    ("a write that was given up", "1:begin,write1=5,give-up 0:begin,read1", "unset"),
     ("a read that was given up", "0:begin,read0 1:begin,write0=5,try 0:give-up,begin,read0", "value 5"),
     ("a try behind a give up", "0:begin,write0=5,give-up,try", "refused 14"),
-    ("an aborted transaction's write", "1:begin,read0,write1=5 2:begin,write0=1,try 1:try 0:begin,read1", "value 0"),
+    ("an aborted transaction's write", "1:begin,read0,write1=5 2:begin,write0=1,try 1:try 0:begin,read1", "unset"),
+    ("a cell never written, beside one that was", "1:begin,write0=5,try 0:begin,read0,read1", "unset"),
+    ("a cell written as 0", "1:begin,write0=0,try 0:begin,read0", "value 0"),
+    ("a cell written as 0, read again", "1:begin,write0=0,try 0:begin,read0,read0", "value 0"),
+    ("an unset cell, written as 0 since, read again", "0:begin,read0 1:begin,write0=0,try 0:read0", "unset"),
+    ("an unset cell, then its own write of 0", "0:begin,read0,write0=0,read0", "value 0"),
+    ("its own write of 0 into a cell never written", "0:begin,write0=0,read0", "value 0"),
 ];

@@ -22,8 +22,41 @@ fn listing() {
     let steps = [(0, 0, 0), (0, 32, 0), (1, 0, 0), (1, 64, 5), (1, 65, 7), (1, 1, 0), (0, 33, 0)];
     let (replies, words) = run(2, 2, &steps);
     use Reply::*;
-    assert_eq!(replies, [Ok, Value(0), Ok, Ok, Ok, Commit, Abort(1)]);
+    assert_eq!(replies, [Ok, Unset, Ok, Ok, Ok, Commit, Abort(1)]);
     assert_eq!(words[2..8], [5, 1, 1, 7, 1, 1]);
+}
+
+#[test]
+fn a_cell_written_as_0_is_no_unset_one() {
+    use Reply::*;
+    let steps =
+        [(1, 0, 0), (1, 64, 0), (1, 32, 0), (1, 1, 0), (0, 0, 0), (0, 32, 0), (0, 33, 0), (0, 33, 0), (0, 65, 0), (0, 33, 0)];
+    let (replies, words) = run(2, 2, &steps);
+    assert_eq!(replies, [Ok, Ok, Value(0), Commit, Ok, Value(0), Unset, Unset, Ok, Value(0)]);
+    assert_eq!(words[2..8], [0, 1, 0, 0, 0, 0]);
+}
+
+#[test]
+fn unset_by_the_number_alone() {
+    use Reply::*;
+    // Two cells of value 9, the first with own number 0 and the second with 3; the handler has both in some set, with copies 8.
+    let register = |read, written, numbers: [u32; 2]| {
+        let mut words = vec![2, 1, 9, 0, 5, 9, 5, 3, 1, read, written, 6, 6];
+        words.extend([&numbers[..], &[8, 8]].concat());
+        words
+    };
+    let asked = |mut words: Vec<u32>, code| (step(&mut words, 0, code, 0), words);
+    // A first read goes by the cell's own number, whatever its value is, which is copied all the same.
+    let (reply, words) = asked(register(0, 0, [4, 0]), 32);
+    assert_eq!((reply, &words[9..]), (Unset, &[1, 0, 6, 6, 0, 5, 9, 8][..]));
+    assert_eq!(asked(register(0, 0, [4, 0]), 33).0, Value(9));
+    // A later read goes by the transaction's number, whatever the cell's own number and the copy are, and changes no word.
+    for (numbers, replies) in [([0, 0], [Unset, Unset]), ([1, 0], [Value(8), Unset]), ([0, 1], [Unset, Value(8)])] {
+        assert_eq!(asked(register(3, 0, numbers), 32), (replies[0], register(3, 0, numbers)));
+        assert_eq!(asked(register(3, 0, numbers), 33), (replies[1], register(3, 0, numbers)));
+        // What the transaction has written is a value, whatever its number, and read or not.
+        assert_eq!([0, 3].map(|read| asked(register(read, 3, numbers), 32).0), [Value(8); 2]);
+    }
 }
 
 #[test]

@@ -1,9 +1,7 @@
--- `judge::taking::read` meets its contract: the copy, or abort 1, or the value of the present version, which is noted.
-use Prim.Native.Nat.{ℕ}
-use mathlib.Core.Path.{_≡_, ap, _∙_}
+-- `judge::taking::read` meets its contract: what the copy shows, or abort 1, or what the present version shows, which is noted.
+use mathlib.Core.Path.{_≡_, _∙_}
 use native.Mathlib.Omega.{arith}
 use borrow.Author.Needs.{needs}
-use Rattle.layout.specs.Places.{copyAt}
 use Rattle.judge.proofs.Answers.{touched, isTorn, touched-told, torn-told, takes-again, takes-torn, takes-first}
 use Rattle.judge.proofs.taking.read.Statement.{statement}
 use Rattle.judge.proofs.taking.read.Tie as tie
@@ -40,13 +38,9 @@ read-spec =
     -- the copy
     (λ c κs. search needs)
     (λ c. search needs)
-    (λ c. search needs)
-    (λ c. search needs)
-    (λ c v. let found = c .before in
-    let told = found .before in
+    (λ c v. let told = c .before .before in
     let has = told .before in
-    takes-again (start has .pre) (found .copy-at .ensures ∙ ap (λ (k : ℕ). copyAt k (start has .args .x)) (row has .handler-row .ensures))
-    (asked has ∙ told .if1 .taken) v)
+    takes-again (start has .pre) (row has .handler-row .ensures) (c .copy-content .ensures _ (start has .pre .cell)) (asked has ∙ told .if1 .taken) v)
     (λ c. search needs)
     (λ c. search needs)
     (λ c κs. search needs)
@@ -60,7 +54,8 @@ read-spec =
     takes-torn (start has .pre) (asked has ∙ else .if1 .left) (torn (told .before) ∙ told .if2 .taken) v
     (row has .handler-row .ensures) (c .before .before .empty-row .ensures))
     (λ c κs. search needs)
-    (λ c κs. let wrote = c .before .before .before .before .before .before in
+    (λ c κs. search needs)
+    (λ c κs. let wrote = c .before .before .before .before .before .before .before in
     let has = wrote .before .before .before .before in
     let pre = start has .pre in (
       (
@@ -72,11 +67,13 @@ read-spec =
       row has .before .slice-known .given _ .fits,
     ))
     (λ c. search needs)
-    -- the value
-    (λ c v. let told = c .before .before .before .before .before .before in
+    -- what the present version shows
+    (λ c v. let noted = c .before .before .before in
+    let found = noted .before .before in
+    let told = found .before .before in
     let has = first (told .before) in
     let else = told .before .before .before .before .before .before in
     let entry = start has in
-    takes-first (entry .pre) (asked has ∙ else .if1 .left) (torn (told .before) ∙ told .if2 .left) v _ _
-    (told .before .before .before .writer-of .ensures .0 _ (entry .pre .cell)) (c .before .before .before .before .present-value .ensures _ (entry .pre .cell))
-    (row has .handler-row .ensures) (c .before .before .note-read .ensures)))
+    takes-first (entry .pre) (asked has ∙ else .if1 .left) (torn (told .before) ∙ told .if2 .left) v _ _ _
+    (told .before .before .before .writer-of .ensures .0 _ (entry .pre .cell)) (found .present-content .ensures _ (entry .pre .cell))
+    (noted .noted-word .ensures) (row has .handler-row .ensures) (c .before .before .note-read .ensures)))

@@ -54,7 +54,7 @@ answer c =
 
 -- Where the test was asked, seen from where the numbers have been copied out.
 abbrev asked : tie.After-copy-out → tie.After-torn
-asked c = c .before .before .before .before
+asked c = c .before .before .before .before .before
 
 -- Abort 1.
 returns : tie.Need-returns
@@ -67,10 +67,11 @@ returns c =
 -- The cell is read.
 returns-2 : tie.Need-returns-2
 returns-2 c =
-    let copied = c .before .before .before .before .before in
+    let copied = c .before .before .before .before .before .before in
     let at = found (asked copied) in
+    let whole = sym (answer (asked copied)) ∙ copied .before .before .before .before .if1 .left in
     read-takes (start at .pre) (at .before .cell-at .ensures .starts) (at .block-at .ensures) (copied .copy-out .ensures)
-    (sym (answer (asked copied)) ∙ copied .before .before .before .if1 .left) (c .before .before .join .ensures)
+    whole (c .version-shows .ensures .replied) (c .before .before .before .join .ensures)
 
 pub first-read-spec : {M : Type 1} → statement M
 first-read-spec =
@@ -97,11 +98,14 @@ first-read-spec =
     block-words (start at .pre .ready .seated) (at .block-at .ensures))
     (λ c. search needs)
     returns
-    -- the value, and the numbers copied out
+    -- the value, its number, and the numbers copied out
     (λ c. search needs)
     (λ c. omega (arith, lies (found (c .before))))
     (λ c. omega (arith, lies (found (c .before .before))))
-    (λ c κs. let at = found (c .before .before .before) in (omega (arith, lies at), start at .pre .ready .seated .formed .few))
+    (λ c. let at = found (c .before .before) in omega (arith, lies at, start at .pre .ready .cell))
+    (λ c. omega (arith, lies (found (c .before .before))))
+    (λ c. let at = found (c .before .before .before) in omega (arith, lies at, start at .pre .ready .cell))
+    (λ c κs. let at = found (c .before .before .before .before) in (omega (arith, lies at), start at .pre .ready .seated .formed .few))
     -- the cell joins
     (λ c. omega (arith, lies (found (asked c))))
     (λ c. search needs)
@@ -114,5 +118,6 @@ first-read-spec =
       ready .cell,
       row-small (start at .pre) (at .before .cell-at .ensures .starts) (at .block-at .ensures) (copied .copy-out .ensures),
     ))
+    (λ c κs. search needs)
     (λ c. search needs)
     returns-2)

@@ -70,7 +70,10 @@ impl State {
     pub fn after(mut self, handler: u32, codes: &[u32]) -> Self {
         for &code in codes {
             let reply = register::step(&mut self.words, handler, code, 1000 + code);
-            assert!(matches!(reply, Reply::Ok | Reply::Value(_) | Reply::Commit), "handler {handler} code {code}: {reply:?}");
+            assert!(
+                matches!(reply, Reply::Ok | Reply::Value(_) | Reply::Unset | Reply::Commit),
+                "handler {handler} code {code}: {reply:?}"
+            );
         }
         self
     }
@@ -118,6 +121,8 @@ fn taken(lived: &State) -> Vec<Row> {
         state().begun(&[]).step("first read, none before it", read(x), value),
         state().begun(&others).step("first read, all others before it", read(x), value),
         state().begun(&[read(x)]).step("repeated read", read(x), value),
+        state().with(own, 0).begun(&[]).step("first read, unset", read(x), Reply::Unset),
+        state().with(own, 0).begun(&[read(x)]).step("repeated read, unset", read(x), Reply::Unset),
         state().begun(&[]).step("write", write(x), Reply::Ok),
         state().begun(&[read(x), write(x)]).step("try, commits 1 cell", TRY, Reply::Commit),
         state().begun(&all).step("try, commits m cells", TRY, Reply::Commit),
