@@ -64,14 +64,15 @@ static uint64_t give_up(struct depot *depot, uint32_t handler) {
     return take(depot, handler, ZIDLEMOWO_GIVE_UP, 0, ZIDLEMOWO_ABORT);
 }
 
-// Says how a transaction ended, and whether it has to be begun anew. A spent number ends the program: no attempt would ever commit.
+// Says how a transaction ended, of an abort also which cell stood in the way, and whether it has to be begun anew. A spent number ends the
+// program: no attempt would ever commit.
 static bool again(const char *who, uint64_t reply) {
     if (!aborted(reply)) {
         printf("%s: commit\n", who);
         return false;
     }
-    printf("%s: abort %" PRIu32 "\n", who, zidlemowo_detail(reply));
-    if (zidlemowo_detail(reply) == ZIDLEMOWO_SPENT) {
+    printf("%s: abort %" PRIu32 " cell %" PRIu32 "\n", who, zidlemowo_reason(reply), zidlemowo_cell(reply));
+    if (zidlemowo_reason(reply) == ZIDLEMOWO_SPENT) {
         exit(EXIT_FAILURE);
     }
     return true;
@@ -111,7 +112,7 @@ static void drop_off(struct depot *depot, uint32_t mast) {
     begin(depot, SOUTH_FEED);
     write_site(depot, SOUTH_FEED, SOUTH, mast);
     printf("south feed: mast %" PRIu32 " drops off the air\n", mast);
-    printf("south feed: abort %" PRIu32 "\n", zidlemowo_detail(give_up(depot, SOUTH_FEED)));
+    printf("south feed: abort %" PRIu32 "\n", zidlemowo_reason(give_up(depot, SOUTH_FEED)));
 }
 
 // The masts that the south feed reports in a burst, one after another, and the steps of each report.

@@ -32,12 +32,17 @@
 // The version of this header and its library: of its functions, its numbers, and the layout of the words of a register, a row and a
 // sheet.
 //
+// Since 0.5.0 aborts 1, 2 and 3 name a cell. A report of a row has five words, the last of them the cell, where it had four: a caller who lends
+// words for reports by ZIDLEMOWO_REPORT_WORDS has to be compiled anew, and nothing else; whoever wrote 4 has to write 5. The detail of an abort
+// is cell * 65,536 + reason, where it was the reason: take zidlemowo_reason in the place of zidlemowo_detail. The texts of whole runs have
+// `abort 1 cell 0` for `abort 1`. The words of registers and of sheets that were kept go on as they are.
+//
 // Since 0.4.0 a read of a cell that no commit has written replies ZIDLEMOWO_UNSET, a kind of its own, and no longer the value 0, so that it
 // is told from a cell that was written as 0. A caller who takes every reply to a read that is no abort for a value has to look at the
 // kind; where both are to be 0 as before, the detail, which is 0 too, may be taken. Words that were kept go on as they are.
-#define ZIDLEMOWO_VERSION "0.4.0"
+#define ZIDLEMOWO_VERSION "0.5.0"
 #define ZIDLEMOWO_VERSION_MAJOR 0 // the parts, for the preprocessor
-#define ZIDLEMOWO_VERSION_MINOR 4
+#define ZIDLEMOWO_VERSION_MINOR 5
 #define ZIDLEMOWO_VERSION_PATCH 0
 
 #ifdef __cplusplus
@@ -51,7 +56,8 @@ enum {
     ZIDLEMOWO_MOST_WORDS = 2642,      // the words of the largest register, m = 32 and n = 16
     ZIDLEMOWO_MOST_NUMBER = 65535,    // the largest number of a cell, a handler or a transaction
     ZIDLEMOWO_STEP_WORDS = 3,         // the words of a step in a row: handler, code, value
-    ZIDLEMOWO_REPORT_WORDS = 4,       // the words of a step's report: handler, code, kind, detail
+    ZIDLEMOWO_REPORT_WORDS = 5,       // the words of a step's report: handler, code, kind, detail, cell
+    ZIDLEMOWO_ABORT_CELL = 65536,     // what the cell of an abort counts in its detail: cell * 65,536 + reason
     ZIDLEMOWO_MOST_FILE = 65535,      // the most bytes of a schedule file: a longer one is refused with 30
     ZIDLEMOWO_MOST_PRINTED = 2230434, // no text of a whole run has more bytes, whatever the file
     ZIDLEMOWO_SHEET_WORDS = 96,       // the words of a duty sheet: a row for each of 16 handlers, however many a file has
@@ -86,7 +92,8 @@ enum {
     ZIDLEMOWO_REPORT_HANDLER = 0, // the step's handler, as it was given
     ZIDLEMOWO_REPORT_CODE = 1,    // the step's code, as it was given, also above 255
     ZIDLEMOWO_REPORT_KIND = 2,    // the kind of the reply
-    ZIDLEMOWO_REPORT_DETAIL = 3,  // its detail: the value read, the reason of an abort, the refusal, or 0
+    ZIDLEMOWO_REPORT_DETAIL = 3,  // its detail: the value read, the reason of an abort without its cell, the refusal, or 0
+    ZIDLEMOWO_REPORT_CELL = 4,    // the cell that an abort names, or 0
 };
 
 // Kinds of reply to a step.
@@ -94,18 +101,18 @@ enum {
     ZIDLEMOWO_OK = 0,      // ok: a begin or a write was done; the detail is 0
     ZIDLEMOWO_VALUE = 1,   // value: what a read found; the detail is the value
     ZIDLEMOWO_COMMIT = 2,  // commit: a try stored what the transaction wrote and ended it; the detail is 0
-    ZIDLEMOWO_ABORT = 3,   // abort: the transaction is ended, nothing of it is kept; the detail is the reason
+    ZIDLEMOWO_ABORT = 3,   // abort: the transaction is ended, nothing of it is kept; the detail is cell * 65,536 + reason
     ZIDLEMOWO_REFUSED = 4, // refused: nothing is changed; the detail is the refusal
     ZIDLEMOWO_UNSET = 5,   // unset: a read found that no commit had written the cell, nor this transaction; the detail is 0
 };
 
 // Reasons of an abort, which are outcomes and no mistakes. After 1 or 2 the transaction may be begun anew. 5 is what a give up gives, and
-// nothing else does. No reason is 4.
+// nothing else does. No reason is 4. Each of 1, 2 and 3 names a cell: of those that meet its condition the one with the lowest number.
 enum {
-    ZIDLEMOWO_TORN = 1,      // a first read: the cell depends on a later version of a cell already read
-    ZIDLEMOWO_OVERTAKEN = 2, // a try: a cell that was read has another number now
-    ZIDLEMOWO_SPENT = 3,     // a try, no cell overtaken: a written cell's number stands at 65,535, and so for good
-    ZIDLEMOWO_GAVE_UP = 5,   // a give up: the handler has ended its transaction itself
+    ZIDLEMOWO_TORN = 1,      // a first read: the cell depends on a later version of a cell already read, which is the one named
+    ZIDLEMOWO_OVERTAKEN = 2, // a try: a cell that was read, and is named, has another number now
+    ZIDLEMOWO_SPENT = 3,     // a try, no cell overtaken: a written cell's number stands at 65,535, and so for good; it is named
+    ZIDLEMOWO_GAVE_UP = 5,   // a give up: the handler has ended its transaction itself; no cell is named, and 0 stands for it
 };
 
 // The columns of a duty sheet: where each count stands in a handler's row.
@@ -146,7 +153,8 @@ uint32_t zidlemowo_length(uint32_t m, uint32_t n);
 uint32_t zidlemowo_open(uint32_t *words, size_t length, uint32_t m, uint32_t n);
 
 // Takes the step of a handler (0 to n - 1) on the register in front of `length` words. `value` is what a write writes; no other
-// step looks at it. Gives kind * 2^32 + detail, which zidlemowo_kind and zidlemowo_detail take apart.
+// step looks at it. Gives kind * 2^32 + detail, which zidlemowo_kind and zidlemowo_detail take apart, and where it is an abort zidlemowo_reason
+// and zidlemowo_cell too.
 uint64_t zidlemowo_step(uint32_t *words, size_t length, uint32_t handler, uint32_t code, uint32_t value);
 
 // Takes a row of steps, one after another, on the register in front of `length` words, and reports each. The replies, and the words that
@@ -155,8 +163,9 @@ uint64_t zidlemowo_step(uint32_t *words, size_t length, uint32_t handler, uint32
 //
 // `steps` are ZIDLEMOWO_STEP_WORDS words for each step: its handler, its code and its value. Words of a last step that is cut short are
 // ignored. From word `place` of `reports` on each step has its ZIDLEMOWO_REPORT_WORDS words, in the order of the steps: its handler and its
-// code as they were given, and the kind and the detail of its reply. A step that is refused is reported too, as ZIDLEMOWO_REFUSED
-// with the refusal, and the row goes on. The words of `reports` in front of the place and behind the last report are never changed.
+// code as they were given, the kind and the detail of its reply, and the cell that it names. An abort's detail is its reason here, since the
+// cell has a word of its own. A step that is refused is reported too, as ZIDLEMOWO_REFUSED with the refusal, and the row goes on. The words of
+// `reports` in front of the place and behind the last report are never changed.
 //
 // Gives 0, or the refusal, which changes nothing: ZIDLEMOWO_NOT_WELL_FORMED, or ZIDLEMOWO_NO_ROOM exactly where the place and
 // ZIDLEMOWO_REPORT_WORDS for each step come to more than `reports_length`. The sum wraps for no place, and a place beyond the end is refused
@@ -194,8 +203,18 @@ uint32_t zidlemowo_sheet(uint32_t *counts, size_t length, const uint8_t *file, s
 // The kind of a reply to a step: ZIDLEMOWO_OK to ZIDLEMOWO_UNSET.
 static inline uint32_t zidlemowo_kind(uint64_t reply) { return (uint32_t)(reply >> 32); }
 
-// The detail of a reply to a step: the value read, the reason of an abort, the refusal, or 0.
+// The detail of a reply to a step: the value read, the reason of an abort with its cell, the refusal, or 0.
 static inline uint32_t zidlemowo_detail(uint64_t reply) { return (uint32_t)(reply & UINT32_MAX); }
+
+// The reason of an abort; 0, which is none, where the reply to a step is no abort.
+static inline uint32_t zidlemowo_reason(uint64_t reply) {
+    return zidlemowo_kind(reply) == ZIDLEMOWO_ABORT ? zidlemowo_detail(reply) % ZIDLEMOWO_ABORT_CELL : 0;
+}
+
+// The cell that an abort names. It is 0 also where none is named: with ZIDLEMOWO_GAVE_UP, and where the reply to a step is no abort.
+static inline uint32_t zidlemowo_cell(uint64_t reply) {
+    return zidlemowo_kind(reply) == ZIDLEMOWO_ABORT ? zidlemowo_detail(reply) / ZIDLEMOWO_ABORT_CELL : 0;
+}
 
 // The code of a cell in the range that begins with `first`. A cell of 32 or above would get the code of another step: it gets none, and
 // so its read or write is refused with 15, where that of a cell from m to 31 is refused with 12.
@@ -245,13 +264,22 @@ static inline const char *zidlemowo_refusal_text(uint32_t refusal) {
     }
 }
 
-// A reply to a step in words, for a log, by its kind and its detail. Of a value it says that one was read; which it is, the detail says.
+// An abort in words, for a log, by its detail. The cell, which the words leave out, has to be one that there can be, and 0 where none is named;
+// so the detail of a reply may be given, and that of a report, which is the reason alone.
+static inline const char *zidlemowo_abort_text(uint32_t detail) {
+    const uint32_t reason = detail % ZIDLEMOWO_ABORT_CELL, cell = detail / ZIDLEMOWO_ABORT_CELL;
+    const uint32_t cells = reason == ZIDLEMOWO_GAVE_UP ? 1 : ZIDLEMOWO_MOST_CELLS;
+    return cell < cells ? zidlemowo_reason_text(reason) : zidlemowo_no_text();
+}
+
+// A reply to a step in words, for a log, by its kind and its detail, or by those of a report. Of a value it says that one was read; which it is,
+// the detail says. Of an abort it says why; the cell is zidlemowo_cell's, or the report's, to say.
 static inline const char *zidlemowo_text(uint32_t kind, uint32_t detail) {
     switch (kind) {
     case ZIDLEMOWO_OK: return detail == 0 ? "done" : zidlemowo_no_text();
     case ZIDLEMOWO_VALUE: return "a value was read";
     case ZIDLEMOWO_COMMIT: return detail == 0 ? "committed" : zidlemowo_no_text();
-    case ZIDLEMOWO_ABORT: return zidlemowo_reason_text(detail);
+    case ZIDLEMOWO_ABORT: return zidlemowo_abort_text(detail);
     case ZIDLEMOWO_REFUSED: return zidlemowo_refusal_text(detail);
     case ZIDLEMOWO_UNSET: return detail == 0 ? "an unset cell was read" : zidlemowo_no_text();
     default: return zidlemowo_no_text();

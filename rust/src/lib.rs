@@ -29,7 +29,8 @@
 //! `Some(0)`.
 //!
 //! A refusal is an error: nothing was changed. An abort is a normal outcome of a read or a try: it ends the transaction, of which
-//! nothing is kept. So a step that can abort gives a result within a result, as in `Ok(Err(Abort::Overtaken))`.
+//! nothing is kept. So a step that can abort gives a result within a result, as in `Ok(Err(Abort::Overtaken { cell: 0 }))`: the abort names the
+//! lowest of the cells that stood in the way.
 //!
 //! # A transaction that is given up
 //!
@@ -73,9 +74,10 @@
 //! over many files what each handler began, committed and had aborted.
 #![deny(missing_docs, unsafe_code)]
 
+mod aborts;
 #[allow(unsafe_code)]
 mod raw;
-mod reasons;
+mod refusals;
 mod register;
 mod replies;
 mod row;
@@ -85,7 +87,8 @@ mod sheet;
 mod step;
 mod transact;
 
-pub use reasons::{Abort, Refusal};
+pub use aborts::{Abort, Reason};
+pub use refusals::Refusal;
 pub use register::{needed, Register};
 pub use replies::Reply;
 pub use row::{Report, Row};

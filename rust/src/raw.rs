@@ -33,13 +33,13 @@ pub fn open(words: &mut [u32], m: u32, n: u32) -> u32 {
     unsafe { zidlemowo_open(words.as_mut_ptr(), words.len(), m, n) }
 }
 
-/// Takes a step: the reply's kind in the upper half, its detail in the lower.
+/// Takes a step: the reply's kind in the upper half, its detail in the lower, where an abort's is cell · 65,536 + reason.
 pub fn step(words: &mut [u32], handler: u32, code: u32, value: u32) -> u64 {
     // SAFETY: pointer and length are those of one slice that is lent for the call alone.
     unsafe { zidlemowo_step(words.as_mut_ptr(), words.len(), handler, code, value) }
 }
 
-/// Takes a row of steps, three words each, and reports them from the place on, four words each: 0, or the refusal's number.
+/// Takes a row of steps, three words each, and reports them from the place on, five words each: 0, or the refusal's number.
 pub fn row(words: &mut [u32], steps: &[u32], reports: &mut [u32], place: usize) -> u32 {
     let (long, steps_long, reports_long) = (words.len(), steps.len(), reports.len());
     // SAFETY: each pointer and length are those of one slice that is lent for the call alone.

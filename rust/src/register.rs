@@ -1,6 +1,7 @@
 //! A register over its own words or over words that are lent, and its steps.
+use crate::aborts::Abort;
 use crate::raw;
-use crate::reasons::{Abort, Refusal};
+use crate::refusals::Refusal;
 use crate::replies::Reply;
 use crate::row::{Report, Row};
 use crate::step::Step;
@@ -162,7 +163,7 @@ impl<'a> Register<'a> {
         Ok(Report::all(&reports))
     }
 
-    /// Takes a row of steps as words, [three](Row::STEP_WORDS) each, and puts the reports, [four](Report::WORDS) words each, into words that
+    /// Takes a row of steps as words, [three](Row::STEP_WORDS) each, and puts the reports, [five](Report::WORDS) words each, into words that
     /// are lent, from the place on. A last step that is cut short is ignored. Refused with 10, or with 42 where the reports would
     /// pass the end; then no step is taken and no word is changed.
     ///
@@ -170,10 +171,10 @@ impl<'a> Register<'a> {
     /// use zidlemowo::{Refusal, Register};
     ///
     /// let mut register = Register::new(2, 1)?;
-    /// let mut reports = [9; 10];
+    /// let mut reports = [9; 12];
     /// register.row_into(&[0, 0, 0, 0, 300, 0], &mut reports, 1)?;
-    /// assert_eq!(reports, [9, 0, 0, 0, 0, 0, 300, 4, 15, 9]);
-    /// assert_eq!(register.row_into(&[0, 1, 0], &mut reports, 7), Err(Refusal::NoRoom));
+    /// assert_eq!(reports, [9, 0, 0, 0, 0, 0, 0, 300, 4, 15, 0, 9]);
+    /// assert_eq!(register.row_into(&[0, 1, 0], &mut reports, 8), Err(Refusal::NoRoom));
     /// # Ok::<(), Refusal>(())
     /// ```
     pub fn row_into(&mut self, steps: &[u32], reports: &mut [u32], place: usize) -> Result<(), Refusal> {
@@ -238,7 +239,7 @@ impl<'a> Register<'a> {
     /// register.begin(1)?;
     /// register.write(1, 0, 5)?;
     /// assert_eq!(register.try_commit(1), Ok(Ok(())));
-    /// assert_eq!(register.try_commit(0), Ok(Err(Abort::Overtaken)));
+    /// assert_eq!(register.try_commit(0), Ok(Err(Abort::Overtaken { cell: 0 })));
     /// # Ok::<(), Refusal>(())
     /// ```
     pub fn try_commit(&mut self, handler: u32) -> Result<Result<(), Abort>, Refusal> {

@@ -151,29 +151,31 @@ pub struct Report {
 }
 
 impl Report {
-    /// The words of a report: handler, code, and the kind and the detail of the reply.
+    /// The words of a report: handler, code, and the kind, the detail and the cell of the reply.
     ///
     /// ```
-    /// assert_eq!(zidlemowo::Report::WORDS, 4);
+    /// assert_eq!(zidlemowo::Report::WORDS, 5);
     /// ```
-    pub const WORDS: usize = 4;
+    pub const WORDS: usize = 5;
 
-    /// The report of these words; none where kind and detail are no reply's.
+    /// The report of these words; none where kind, detail and cell are no reply's.
     ///
     /// ```
-    /// use zidlemowo::{Report, Reply};
+    /// use zidlemowo::{Abort, Reply, Report};
     ///
-    /// assert_eq!(Report::from_words([2, 33, 1, 7]), Some(Report { handler: 2, code: 33, reply: Reply::Value(7) }));
-    /// assert_eq!(Report::from_words([2, 33, 5, 0]), Some(Report { handler: 2, code: 33, reply: Reply::Unset }));
-    /// assert_eq!(Report::from_words([2, 33, 5, 7]), None);
+    /// assert_eq!(Report::from_words([2, 33, 1, 7, 0]), Some(Report { handler: 2, code: 33, reply: Reply::Value(7) }));
+    /// assert_eq!(Report::from_words([2, 33, 5, 0, 0]), Some(Report { handler: 2, code: 33, reply: Reply::Unset }));
+    /// let aborted = Report::from_words([2, 33, 3, 1, 7]).map(|report| report.reply);
+    /// assert_eq!(aborted, Some(Reply::Aborted(Abort::Torn { cell: 7 })));
+    /// assert_eq!(Report::from_words([2, 33, 5, 0, 7]), None);
     /// ```
-    pub fn from_words([handler, code, kind, detail]: [u32; Report::WORDS]) -> Option<Report> {
-        Reply::from_numbers(kind, detail).map(|reply| Report { handler, code, reply })
+    pub fn from_words([handler, code, kind, detail, cell]: [u32; Report::WORDS]) -> Option<Report> {
+        Reply::from_numbers(kind, detail, cell).map(|reply| Report { handler, code, reply })
     }
 
     /// The reports that a row has left in these words.
     pub(crate) fn all(words: &[u32]) -> Vec<Report> {
-        let each = words.chunks_exact(Report::WORDS).map(|report| [report[0], report[1], report[2], report[3]]);
+        let each = words.chunks_exact(Report::WORDS).map(|report| [report[0], report[1], report[2], report[3], report[4]]);
         each.map(|words| Report::from_words(words).expect("a step is reported with numbers of docs/REPLIES.md")).collect()
     }
 }

@@ -1,5 +1,5 @@
 //! A register that several threads, or several parts of a program, have at once: each step is taken alone.
-use crate::reasons::Refusal;
+use crate::refusals::Refusal;
 use crate::register::Register;
 use crate::replies::Reply;
 use crate::row::{Report, Row};

@@ -1,16 +1,17 @@
 //! The duty sheet: over many schedule files, how many transactions each handler began and committed, and how many were aborted by
 //! each reason. The words are counted by the proved function; here they get names.
+use crate::aborts::Reason;
 use crate::raw;
-use crate::reasons::{Abort, Refusal};
+use crate::refusals::Refusal;
 use std::fmt;
 
 /// The counts of a handler.
 ///
 /// ```
-/// use zidlemowo::{Abort, Counts};
+/// use zidlemowo::{Counts, Reason};
 ///
 /// let counts = Counts { begun: 9, committed: 4, torn: 2, overtaken: 1, spent: 0, gave_up: 1 };
-/// assert_eq!(counts.aborted(Abort::Torn), 2);
+/// assert_eq!(counts.aborted(Reason::Torn), 2);
 /// assert_eq!(Counts::default().begun, 0);
 /// ```
 #[derive(Clone, Copy, Debug, Default, PartialEq, Eq, Hash)]
@@ -19,30 +20,30 @@ pub struct Counts {
     pub begun: u32,
     /// Transactions committed.
     pub committed: u32,
-    /// Transactions aborted by [`Abort::Torn`].
+    /// Transactions aborted by [`Reason::Torn`].
     pub torn: u32,
-    /// Transactions aborted by [`Abort::Overtaken`].
+    /// Transactions aborted by [`Reason::Overtaken`].
     pub overtaken: u32,
-    /// Transactions aborted by [`Abort::Spent`]. No schedule file is long enough for one.
+    /// Transactions aborted by [`Reason::Spent`]. No schedule file is long enough for one.
     pub spent: u32,
-    /// Transactions that their handler gave up, [`Abort::GaveUp`].
+    /// Transactions that their handler gave up, [`Reason::GaveUp`].
     pub gave_up: u32,
 }
 
 impl Counts {
-    /// Transactions aborted by a reason.
+    /// Transactions aborted by a reason, at whichever cell.
     ///
     /// ```
-    /// use zidlemowo::{Abort, Counts};
+    /// use zidlemowo::{Counts, Reason};
     ///
-    /// assert_eq!(Counts { overtaken: 3, ..Counts::default() }.aborted(Abort::Overtaken), 3);
+    /// assert_eq!(Counts { overtaken: 3, ..Counts::default() }.aborted(Reason::Overtaken), 3);
     /// ```
-    pub fn aborted(self, reason: Abort) -> u32 {
+    pub fn aborted(self, reason: Reason) -> u32 {
         match reason {
-            Abort::Torn => self.torn,
-            Abort::Overtaken => self.overtaken,
-            Abort::Spent => self.spent,
-            Abort::GaveUp => self.gave_up,
+            Reason::Torn => self.torn,
+            Reason::Overtaken => self.overtaken,
+            Reason::Spent => self.spent,
+            Reason::GaveUp => self.gave_up,
         }
     }
 
@@ -186,7 +187,7 @@ impl Default for Sheet {
 impl fmt::Display for Sheet {
     fn fmt(&self, to: &mut fmt::Formatter<'_>) -> fmt::Result {
         write!(to, "handler {:>10} {:>10}", "begun", "committed")?;
-        for reason in Abort::ALL {
+        for reason in Reason::ALL {
             write!(to, " {:>10}", format!("abort {}", reason.number()))?;
         }
         for (handler, row) in self.words.chunks_exact(Sheet::COLUMNS).enumerate() {

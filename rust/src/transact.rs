@@ -1,5 +1,6 @@
 //! Closures as transactions: begun anew after an abort, up to a bound, over whatever takes the steps.
-use crate::reasons::{Abort, Refusal};
+use crate::aborts::{Abort, Reason};
+use crate::refusals::Refusal;
 use crate::replies::Reply;
 use crate::step::Step;
 use std::error::Error;
@@ -10,7 +11,8 @@ use std::fmt;
 /// ```
 /// use zidlemowo::{Abort, Stopped};
 ///
-/// assert_eq!(Stopped::Aborted(Abort::Torn).to_string(), Abort::Torn.to_string());
+/// let torn = Abort::Torn { cell: 0 };
+/// assert_eq!(Stopped::Aborted(torn).to_string(), torn.to_string());
 /// ```
 #[derive(Clone, Copy, Debug, PartialEq, Eq, Hash)]
 pub enum Stopped {
@@ -36,8 +38,8 @@ impl Error for Stopped {}
 /// ```
 /// use zidlemowo::{Abort, NotCommitted, Stopped};
 ///
-/// let not_committed = NotCommitted::<Stopped>::Aborted(Abort::Spent);
-/// assert_eq!(not_committed.to_string(), Abort::Spent.to_string());
+/// let not_committed = NotCommitted::<Stopped>::Aborted(Abort::Spent { cell: 0 });
+/// assert_eq!(not_committed.to_string(), Abort::Spent { cell: 0 }.to_string());
 /// ```
 #[derive(Clone, Copy, Debug, PartialEq, Eq, Hash)]
 pub enum NotCommitted<E> {
@@ -165,7 +167,7 @@ pub(crate) fn transact<T, E>(
         match once(take, handler, &mut closure)? {
             Ok(value) => return Ok(value),
             // A spent cell stays spent, so starting over would end the same way.
-            Err(abort) if abort == Abort::Spent || made >= attempts => return Err(NotCommitted::Aborted(abort)),
+            Err(abort) if abort.reason() == Reason::Spent || made >= attempts => return Err(NotCommitted::Aborted(abort)),
             Err(_) => (),
         }
     }

@@ -76,7 +76,7 @@ fn k6_stale_read() {
         if writes_too {
             assert_eq!(register.write(0, 0, 7), Ok(()));
         }
-        assert_eq!(register.try_commit(0), Ok(Err(Abort::Overtaken)));
+        assert_eq!(register.try_commit(0), Ok(Err(Abort::Overtaken { cell: 0 })));
         assert_eq!(cell(&register, 0), (5, [1, 0]));
         assert_eq!(register.try_commit(0), Err(Refusal::NotOpen));
     }
@@ -114,7 +114,7 @@ fn k8_past_through_a_read() {
     begins_and_reads(&mut register, 2, 0, Some(5));
     assert_eq!(register.write(2, 1, 6), Ok(()));
     assert_eq!(register.try_commit(2), Ok(Ok(())));
-    assert_eq!(register.read(0, 1), Ok(Err(Abort::Torn)));
+    assert_eq!(register.read(0, 1), Ok(Err(Abort::Torn { cell: 0 })));
     assert_eq!(cell(&register, 1), (6, [1, 1]));
 }
 
@@ -124,7 +124,7 @@ fn k9_past_through_a_handler() {
     begins_and_reads(&mut register, 0, 0, None);
     commits(&mut register, 1, &[(0, 5)]);
     commits(&mut register, 1, &[(1, 6)]);
-    assert_eq!(register.read(0, 1), Ok(Err(Abort::Torn)));
+    assert_eq!(register.read(0, 1), Ok(Err(Abort::Torn { cell: 0 })));
 }
 
 #[test]
@@ -134,7 +134,7 @@ fn k10_blind_write() {
     commits(&mut register, 1, &[(0, 5)]);
     commits(&mut register, 2, &[(1, 6)]);
     assert_eq!(register.read(0, 1), Ok(Ok(Some(6))));
-    assert_eq!(register.try_commit(0), Ok(Err(Abort::Overtaken)));
+    assert_eq!(register.try_commit(0), Ok(Err(Abort::Overtaken { cell: 0 })));
 }
 
 #[test]
@@ -143,7 +143,7 @@ fn k11_commit_order() {
     commits(&mut register, 1, &[(1, 3)]);
     begins_and_reads(&mut register, 0, 1, Some(3));
     commits(&mut register, 2, &[(0, 4), (1, 8)]);
-    assert_eq!(register.read(0, 0), Ok(Err(Abort::Torn)));
+    assert_eq!(register.read(0, 0), Ok(Err(Abort::Torn { cell: 1 })));
 }
 
 /// The words of a fresh register but for cell 0's own number.
@@ -161,7 +161,7 @@ fn k12_the_last_number() {
     assert_eq!(cell(&register, 0), (5, [65_535, 0]));
     assert_eq!(register.begin(0), Ok(()));
     assert_eq!(register.write(0, 0, 6), Ok(()));
-    assert_eq!(register.try_commit(0), Ok(Err(Abort::Spent)));
+    assert_eq!(register.try_commit(0), Ok(Err(Abort::Spent { cell: 0 })));
     assert_eq!(cell(&register, 0), (5, [65_535, 0]));
 }
 
@@ -172,7 +172,33 @@ fn k12_a_stale_read_goes_first() {
     begins_and_reads(&mut register, 0, 1, None);
     assert_eq!(register.write(0, 0, 6), Ok(()));
     commits(&mut register, 1, &[(1, 3)]);
-    assert_eq!(register.try_commit(0), Ok(Err(Abort::Overtaken)));
+    assert_eq!(register.try_commit(0), Ok(Err(Abort::Overtaken { cell: 1 })));
+}
+
+/// A register of 32 cells in which handler 0 has a transaction open with these steps, and handler 1 has then committed a write of these cells.
+fn overtaken_by(steps: impl Iterator<Item = Step>, cells: impl Iterator<Item = u32>) -> Register<'static> {
+    let mut register = Register::new(32, 2).expect("in range");
+    assert_eq!(register.begin(0), Ok(()));
+    steps.for_each(|step| assert!(matches!(register.take(0, step), Reply::Done | Reply::Unset)));
+    commits(&mut register, 1, &cells.map(|cell| (cell, 7)).collect::<Vec<_>>());
+    register
+}
+
+#[test]
+fn the_lowest_cell_is_named() {
+    for cell in 0..32 {
+        // The one that is read at last; all others are read before, from the highest down.
+        let last = if cell == 31 { 0 } else { 31 };
+        let reads = || (0..32).rev().filter(|&other| other != last).map(Step::Read);
+        let mut register = overtaken_by(reads(), (cell..32).chain([last]));
+        assert_eq!(register.read(0, last), Ok(Err(Abort::Torn { cell })));
+        let mut register = overtaken_by(reads(), (cell..32).chain([last]));
+        assert_eq!(register.try_commit(0), Ok(Err(Abort::Overtaken { cell })));
+        // All are written, and from the cell on they are spent.
+        let mut words = overtaken_by((0..32).rev().map(|other| Step::Write(other, 7)), 0..32).words().to_vec();
+        (cell as usize..32).for_each(|other| words[2 + 33 * other + 1 + other] = 65_535);
+        assert_eq!(Register::resume(&mut words).try_commit(0), Ok(Err(Abort::Spent { cell })));
+    }
 }
 
 #[test]
@@ -204,7 +230,7 @@ fn a_cell_written_as_0_is_no_unset_one() {
     begins_and_reads(&mut register, 0, 0, None);
     commits(&mut register, 1, &[(0, 0)]);
     assert_eq!(register.take(0, Step::Read(0)), Reply::Unset);
-    assert_eq!(register.try_commit(0), Ok(Err(Abort::Overtaken)));
+    assert_eq!(register.try_commit(0), Ok(Err(Abort::Overtaken { cell: 0 })));
     begins_and_reads(&mut register, 0, 0, Some(0));
     assert_eq!(register.read(0, 0), Ok(Ok(Some(0))));
     assert_eq!(register.read(0, 1), Ok(Ok(None)));
@@ -220,6 +246,6 @@ fn words_behind_a_register_stay() {
     let mut register = Register::open(&mut words, 2, 2).expect("40 words are enough");
     begins_and_reads(&mut register, 0, 0, None);
     commits(&mut register, 1, &[(0, u32::MAX), (1, u32::MAX)]);
-    assert_eq!(register.read(0, 1), Ok(Err(Abort::Torn)));
+    assert_eq!(register.read(0, 1), Ok(Err(Abort::Torn { cell: 0 })));
     assert_eq!(words[needed(2, 2).expect("in range")..], [7; 14]);
 }

@@ -1,6 +1,6 @@
 //! The numbers and texts of the replies are those of docs/REPLIES.md, read from its tables, and lead there and back.
 use std::fs;
-use zidlemowo::{Abort, Refusal, Reply};
+use zidlemowo::{Abort, Reason, Refusal, Reply};
 
 /// The rows of the table below a heading: a number, and the entries behind it.
 fn rows(heading: &str) -> Vec<(u32, Vec<String>)> {
@@ -21,12 +21,27 @@ fn capital(name: &str) -> String {
 #[test]
 fn aborts_are_the_documents() {
     let rows = rows("Reasons of an abort");
-    assert_eq!(rows.iter().map(|row| row.0).collect::<Vec<_>>(), Abort::ALL.map(Abort::number));
+    assert_eq!(rows.iter().map(|row| row.0).collect::<Vec<_>>(), Reason::ALL.map(Reason::number));
     for (number, entries) in rows {
-        let abort = Abort::from_number(number).expect("an abort");
-        assert_eq!(format!("{abort:?}"), capital(&entries[0]));
-        assert_eq!(abort.to_string(), format!("abort {number} ({})", abort.text()));
+        let reason = Reason::from_number(number).expect("a reason");
+        assert_eq!(format!("{reason:?}"), capital(&entries[0]));
+        let names_a_cell = entries[2] != "none";
+        for cell in 0..40 {
+            let abort = Abort::new(reason, cell);
+            assert_eq!(abort.is_some(), cell < if names_a_cell { 32 } else { 1 }, "{reason:?} of cell {cell}");
+            let Some(abort) = abort else { continue };
+            assert_eq!((abort.reason(), abort.cell()), (reason, names_a_cell.then_some(cell)));
+            assert_eq!((abort.number(), abort.text()), (number, reason.text()));
+            let printed = if names_a_cell { format!("abort {number} cell {cell}") } else { format!("abort {number}") };
+            assert_eq!(Reply::Aborted(abort).to_string(), printed);
+            assert_eq!(abort.to_string(), format!("{printed} ({})", reason.text()));
+        }
     }
+}
+
+/// An abort of each reason, at a cell where one is named.
+fn aborts(cell: u32) -> [Abort; 4] {
+    [Abort::Torn { cell }, Abort::Overtaken { cell }, Abort::Spent { cell }, Abort::GaveUp]
 }
 
 #[test]
@@ -45,7 +60,7 @@ fn kinds_are_the_documents() {
     let words = rows("Kinds of reply").into_iter().map(|(kind, entries)| (kind, entries[0].clone()));
     let first = |words: String| words.split([':', ' ']).next().unwrap_or_default().to_owned();
     let documented: Vec<(u32, String)> = words.map(|(kind, words)| (kind, first(words))).collect();
-    let ended = [Reply::Committed, Reply::Aborted(Abort::Torn), Reply::Refused(Refusal::NoCell)];
+    let ended = [Reply::Committed, Reply::Aborted(Abort::GaveUp), Reply::Refused(Refusal::NoCell)];
     let replies = [[Reply::Done, Reply::Value(7)].as_slice(), &ended, &[Reply::Unset]].concat();
     assert_eq!(documented, replies.iter().map(|reply| (reply.kind(), first(reply.to_string()))).collect::<Vec<_>>());
 }
@@ -60,7 +75,7 @@ fn worded(reply: Reply) -> (u32, Vec<String>) {
 fn texts_are_the_documents() {
     let others = [Reply::Done, Reply::Value(7), Reply::Committed];
     let replies =
-        others.into_iter().chain(Abort::ALL.map(Reply::Aborted)).chain(Refusal::ALL.map(Reply::Refused)).chain([Reply::Unset]);
+        others.into_iter().chain(aborts(7).map(Reply::Aborted)).chain(Refusal::ALL.map(Reply::Refused)).chain([Reply::Unset]);
     let (said, documented) = (replies.map(worded).collect::<Vec<_>>(), rows("In words"));
     assert_eq!(said.len(), documented.len());
     for (text, row) in said.into_iter().zip(documented) {
@@ -71,25 +86,32 @@ fn texts_are_the_documents() {
 #[test]
 fn every_reply_leads_to_its_numbers_and_back() {
     let values = [0, 1, 65_535, u32::MAX].map(Reply::Value);
-    let aborts = Abort::ALL.map(Reply::Aborted);
+    let aborts = (0..32).flat_map(aborts).map(Reply::Aborted);
     let refusals = Refusal::ALL.map(Reply::Refused);
     let others = [Reply::Done, Reply::Committed, Reply::Unset];
     for reply in others.into_iter().chain(values).chain(aborts).chain(refusals) {
-        assert_eq!(Reply::from_numbers(reply.kind(), reply.detail()), Some(reply));
+        assert_eq!(Reply::from_numbers(reply.kind(), reply.detail(), reply.cell()), Some(reply));
+        let Reply::Aborted(abort) = reply else { continue };
+        assert_eq!((reply.detail(), reply.cell()), (abort.number(), abort.cell().unwrap_or(0)));
     }
 }
 
 #[test]
 fn numbers_that_stand_for_nothing_give_nothing() {
     for number in (0..1_000).chain([u32::MAX]) {
-        assert_eq!(Abort::from_number(number).map_or(number, Abort::number), number);
-        assert_eq!(Abort::from_number(number).is_some(), [1, 2, 3, 5].contains(&number));
+        assert_eq!(Reason::from_number(number).map_or(number, Reason::number), number);
+        assert_eq!(Reason::from_number(number).is_some(), [1, 2, 3, 5].contains(&number));
         assert_eq!(Refusal::from_number(number).map_or(number, Refusal::number), number);
-        assert_eq!(Reply::from_numbers(5, number).is_some(), number == 0);
-        assert_eq!(Reply::from_numbers(6, number), None);
-        assert_eq!(Reply::from_numbers(0, number).is_some(), number == 0);
-        assert_eq!(Reply::from_numbers(2, number).is_some(), number == 0);
-        assert_eq!(Reply::from_numbers(3, number).is_some(), Abort::from_number(number).is_some());
-        assert_eq!(Reply::from_numbers(4, number).is_some(), Refusal::from_number(number).is_some());
+        assert_eq!(Reply::from_numbers(5, number, 0).is_some(), number == 0);
+        assert_eq!(Reply::from_numbers(6, number, 0), None);
+        assert_eq!(Reply::from_numbers(0, number, 0).is_some(), number == 0);
+        assert_eq!(Reply::from_numbers(2, number, 0).is_some(), number == 0);
+        assert_eq!(Reply::from_numbers(4, number, 0).is_some(), Refusal::from_number(number).is_some());
+        for cell in [0, 1, 31, 32, 65_536, u32::MAX] {
+            let names = Reason::from_number(number).map_or(0, |reason| if reason == Reason::GaveUp { 1 } else { 32 });
+            assert_eq!(Reply::from_numbers(3, number, cell).is_some(), cell < names, "abort {number} of cell {cell}");
+            // Nothing but an abort names a cell.
+            assert!([0, 1, 2, 4, 5].iter().all(|&kind| cell == 0 || Reply::from_numbers(kind, number, cell).is_none()));
+        }
     }
 }

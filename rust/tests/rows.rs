@@ -40,11 +40,41 @@ fn is_its_steps(register: &mut Register<'_>, steps: &[(u32, u32, u32)]) {
 fn the_listing_in_one_call() {
     let mut register = register();
     let reports = register.row(&Row::from(LISTING)).expect("a register");
-    let expected =
-        [Reply::Done, Reply::Unset, Reply::Done, Reply::Done, Reply::Done, Reply::Committed, Reply::Aborted(Abort::Torn)];
+    let expected = [
+        Reply::Done,
+        Reply::Unset,
+        Reply::Done,
+        Reply::Done,
+        Reply::Done,
+        Reply::Committed,
+        Reply::Aborted(Abort::Torn { cell: 0 }),
+    ];
     assert_eq!(replies(&reports), expected);
     assert!(reports.iter().zip(LISTING).all(|(report, (handler, step))| (report.handler, report.code) == (handler, step.code())));
     assert_eq!(register.words()[2..8], [5, 1, 1, 7, 1, 1]);
+}
+
+#[test]
+fn each_abort_is_reported_with_its_cell() {
+    // K11, then a cell overtaken, one spent, and a give up. Cell 1's number is such that the row's three commits spend it.
+    let mut words = Register::new(2, 3).expect("in range").words().to_vec();
+    words[7] = 65_532;
+    let commit =
+        |handler, writes: &[Step]| [&[Step::Begin], writes, &[Step::Try]].concat().into_iter().map(move |step| (handler, step));
+    let open = |steps: &[Step]| [&[Step::Begin], steps].concat().into_iter().map(|step| (0, step));
+    let mut row = Row::new();
+    row.extend(commit(1, &[Step::Write(1, 3)]).chain(open(&[Step::Read(1)])));
+    row.extend(commit(2, &[Step::Write(0, 4), Step::Write(1, 8)]).chain([(0, Step::Read(0))]));
+    row.extend(open(&[Step::Read(0), Step::Read(1)]).chain(commit(1, &[Step::Write(1, 9)])).chain([(0, Step::Try)]));
+    row.extend(open(&[Step::Write(0, 6), Step::Write(1, 6), Step::Try]).chain(open(&[Step::GiveUp])));
+    let reports = Register::resume(&mut words.clone()).row(&row).expect("a register");
+    let aborts: Vec<Abort> = reports.iter().filter_map(|report| report.reply.outcome().ok()?.err()).collect();
+    assert_eq!(aborts, [Abort::Torn { cell: 1 }, Abort::Overtaken { cell: 1 }, Abort::Spent { cell: 1 }, Abort::GaveUp]);
+    // The same in words: the reason and the cell are the last two of five.
+    let mut reported = vec![9; row.len() * Report::WORDS];
+    assert_eq!(Register::resume(&mut words).row_into(row.words(), &mut reported, 0), Ok(()));
+    let ends = reported.chunks_exact(5).filter(|report| report[2] == 3).map(|report| (report[1], report[3], report[4]));
+    assert_eq!(ends.collect::<Vec<_>>(), [(32, 1, 1), (1, 2, 1), (1, 3, 1), (2, 5, 0)]);
 }
 
 #[test]
@@ -92,12 +122,12 @@ fn no_register_no_row() {
     assert_eq!(Register::resume(&mut []).row(&Row::new()), Err(Refusal::NotWellFormed));
     let mut words = register().words().to_vec();
     words[8] = 2;
-    let (before, mut reports) = (words.clone(), [9; 28]);
+    let (before, mut reports) = (words.clone(), [9; 35]);
     // 10 goes before 42.
-    for place in [0, 1, 29, usize::MAX] {
+    for place in [0, 1, 36, usize::MAX] {
         assert_eq!(Register::resume(&mut words).row_into(row.words(), &mut reports, place), Err(Refusal::NotWellFormed));
     }
-    assert_eq!((words, reports), (before, [9; 28]));
+    assert_eq!((words, reports), (before, [9; 35]));
 }
 
 #[test]
@@ -105,10 +135,10 @@ fn no_room_no_row() {
     let row = Row::from(LISTING);
     let mut register = register();
     let before = register.words().to_vec();
-    for long in 0..40 {
-        for place in (0..42).chain([1 << 30, 1 << 32, 1 << 62, usize::MAX - 28, usize::MAX - 27, usize::MAX - 1, usize::MAX]) {
+    for long in 0..48 {
+        for place in (0..50).chain([1 << 30, 1 << 32, 1 << 62, usize::MAX - 35, usize::MAX - 34, usize::MAX - 1, usize::MAX]) {
             let mut reports = vec![9; long];
-            let fits = place <= long && long - place >= 28;
+            let fits = place <= long && long - place >= 35;
             let mut words = before.clone();
             let reply = Register::resume(&mut words).row_into(row.words(), &mut reports, place);
             assert_eq!(reply, if fits { Ok(()) } else { Err(Refusal::NoRoom) }, "{long} words from {place}");
@@ -126,11 +156,11 @@ fn no_room_no_row() {
 fn reports_from_a_place_and_a_step_cut_short() {
     let row = Row::from(LISTING);
     for cut in 1..Row::STEP_WORDS {
-        let mut reports = [9; 35];
+        let mut reports = [9; 41];
         assert_eq!(register().row_into(&row.words()[..row.words().len() - cut], &mut reports, 3), Ok(()));
-        assert_eq!((&reports[..3], &reports[27..]), (&[9; 3][..], &[9; 8][..]));
-        assert_eq!(reports[23..27], [1, 1, 2, 0]);
-        assert_eq!(Report::from_words([1, 1, 2, 0]).map(|report| report.reply), Some(Reply::Committed));
+        assert_eq!((&reports[..3], &reports[33..]), (&[9; 3][..], &[9; 8][..]));
+        assert_eq!(reports[28..33], [1, 1, 2, 0, 0]);
+        assert_eq!(Report::from_words([1, 1, 2, 0, 0]).map(|report| report.reply), Some(Reply::Committed));
     }
 }
 

@@ -3,7 +3,7 @@
 use std::ffi::OsStr;
 use std::fs;
 use std::path::{Path, PathBuf};
-use zidlemowo::{Abort, Counts, Refusal, Sheet};
+use zidlemowo::{Counts, Reason, Refusal, Sheet};
 
 /// The folder of the examples.
 fn folder() -> PathBuf {
@@ -37,11 +37,13 @@ fn a_give_up_is_counted() {
     assert_eq!(of(&sheet, 1), Counts { begun: 1, committed: 1, ..Counts::default() });
 }
 
-/// How many lines of a run's text are a handler's and end so: `place handler code reply`.
-fn lines(text: &str, handler: u32, ending: &str) -> u32 {
+/// How many lines of a run's text, `place handler code reply`, are a handler's and have this reply, whatever cell it names. Where a code is given,
+/// the line has to have that too.
+fn lines(text: &str, handler: u32, code: &str, reply: &str) -> u32 {
     let own = |line: &&str| {
-        line.split(' ').nth(1) == Some(&handler.to_string())
-            && line.split_once(' ').is_some_and(|(_, rest)| rest.ends_with(ending))
+        let words: Vec<&str> = line.splitn(4, ' ').collect();
+        let said = words[3].split(" cell ").next();
+        words[1] == handler.to_string() && [words[2], ""].contains(&code) && said == Some(reply)
     };
     text.lines().filter(|line| line.starts_with(|letter: char| letter.is_ascii_digit())).filter(own).count() as u32
 }
@@ -56,10 +58,10 @@ fn every_example_counts_what_its_text_says() {
         assert_eq!(sheet.add(&fs::read(&path).expect("the file")).err().map(Refusal::number), refused, "{}", path.display());
         for handler in 0..Sheet::HANDLERS {
             let counts = of(&sheet, handler);
-            assert_eq!(counts.begun, lines(&text, handler, " 0 ok"), "{}", path.display());
-            assert_eq!(counts.committed, lines(&text, handler, " commit"), "{}", path.display());
-            for reason in Abort::ALL {
-                assert_eq!(counts.aborted(reason), lines(&text, handler, &format!(" abort {}", reason.number())));
+            assert_eq!(counts.begun, lines(&text, handler, "0", "ok"), "{}", path.display());
+            assert_eq!(counts.committed, lines(&text, handler, "", "commit"), "{}", path.display());
+            for reason in Reason::ALL {
+                assert_eq!(counts.aborted(reason), lines(&text, handler, "", &format!("abort {}", reason.number())));
             }
         }
     }

@@ -31,7 +31,7 @@ fn the_last_abort_is_given_when_the_attempts_are_used_up() {
             other_commits(&shared, count);
             Ok(())
         });
-        assert_eq!((result, count), (Err(NotCommitted::Aborted(Abort::Overtaken)), runs));
+        assert_eq!((result, count), (Err(NotCommitted::Aborted(Abort::Overtaken { cell: 0 })), runs));
         assert_eq!(values(&shared), [runs, runs]);
         assert_eq!(shared.take(0, Step::Begin), Reply::Done);
     }
@@ -64,8 +64,8 @@ fn an_abort_counts_whatever_the_closure_makes_of_it() {
         seen.push(transaction.write(0, 7).map(|()| None));
         Ok(())
     });
-    assert_eq!(result, Err(NotCommitted::Aborted(Abort::Torn)));
-    assert_eq!(seen, [Err(Stopped::Aborted(Abort::Torn)); 3]);
+    assert_eq!(result, Err(NotCommitted::Aborted(Abort::Torn { cell: 0 })));
+    assert_eq!(seen, [Err(Stopped::Aborted(Abort::Torn { cell: 0 })); 3]);
     assert_eq!(values(&shared), [9, 9]);
 }
 
@@ -78,7 +78,7 @@ fn a_spent_cell_is_given_at_once() {
         count += 1;
         transaction.write(0, 5)
     });
-    assert_eq!((result, count), (Err(NotCommitted::Aborted(Abort::Spent)), 1));
+    assert_eq!((result, count), (Err(NotCommitted::Aborted(Abort::Spent { cell: 0 })), 1));
 }
 
 /// Handler 0 is idle, and nothing of its transaction is kept: every word is as it was.

@@ -136,17 +136,17 @@ static void no_register(struct size size) {
     const size_t need = zidlemowo_length(size.m, size.n);
     const uint32_t *steps = steps_of(size, 2);
     uint32_t *words = fresh(size);
-    uint32_t *reports = lend(row_reports, 8);
-    row_refused("a word too few", words, need - 1, steps, 6, reports, 8, 0, ZIDLEMOWO_NOT_WELL_FORMED);
-    row_refused("no words", NULL, 0, steps, 6, reports, 8, 0, ZIDLEMOWO_NOT_WELL_FORMED);
+    uint32_t *reports = lend(row_reports, 10);
+    row_refused("a word too few", words, need - 1, steps, 6, reports, 10, 0, ZIDLEMOWO_NOT_WELL_FORMED);
+    row_refused("no words", NULL, 0, steps, 6, reports, 10, 0, ZIDLEMOWO_NOT_WELL_FORMED);
     for (size_t place = 0; place < need; place++) {
         const uint32_t kept = words[place];
         words[place] = UINT32_MAX;
         // A value or a copy may be anything: what a step finds is what a row does.
         const uint64_t reply = zidlemowo_step(words, need, UINT32_MAX, ZIDLEMOWO_BEGIN, 0);
         if (zidlemowo_detail(reply) == ZIDLEMOWO_NOT_WELL_FORMED) {
-            row_refused("a damaged register", words, need, steps, 6, reports, 8, 0, ZIDLEMOWO_NOT_WELL_FORMED);
-            row_refused("a damaged register, no room", words, need, steps, 6, reports, 8, 1, ZIDLEMOWO_NOT_WELL_FORMED);
+            row_refused("a damaged register", words, need, steps, 6, reports, 10, 0, ZIDLEMOWO_NOT_WELL_FORMED);
+            row_refused("a damaged register, no room", words, need, steps, 6, reports, 10, 1, ZIDLEMOWO_NOT_WELL_FORMED);
             row_refused("a damaged register, no step", words, need, NULL, 0, NULL, 0, 0, ZIDLEMOWO_NOT_WELL_FORMED);
         }
         words[place] = kept;
@@ -173,13 +173,23 @@ static void no_room(struct size size) {
             row_refused("a place beyond the end", words, need, steps, given, reports, length, length + beyond[k], ZIDLEMOWO_NO_ROOM);
             row_refused("a place near the largest", words, need, steps, given, reports, length, SIZE_MAX - beyond[k], ZIDLEMOWO_NO_ROOM);
         }
-        // Here place + 4 * steps wraps round to a word that there is.
+        // Here place + 5 * steps wraps round to a word that there is.
         for (size_t k = 0; count > 0 && k < ZIDLEMOWO_REPORT_WORDS; k++) {
             row_refused("a sum that wraps", words, need, steps, given, reports, long_enough + 5, SIZE_MAX - long_enough + 1 + k, ZIDLEMOWO_NO_ROOM);
         }
         row_refused("the largest place", words, need, steps, given, reports, long_enough + 5, SIZE_MAX, ZIDLEMOWO_NO_ROOM);
         row_refused("no word for reports", words, need, steps, given, NULL, 0, count == 0 ? 1 : 0, ZIDLEMOWO_NO_ROOM);
     }
+}
+
+// The five words of a step's report, from the reply that the step gives by itself.
+static void report_of(uint32_t *report, const uint32_t *step, uint64_t reply) {
+    const uint32_t kind = zidlemowo_kind(reply);
+    report[0] = step[0];
+    report[1] = step[1];
+    report[2] = kind;
+    report[3] = kind == ZIDLEMOWO_ABORT ? zidlemowo_reason(reply) : zidlemowo_detail(reply);
+    report[4] = zidlemowo_cell(reply);
 }
 
 // A row from a place with so many words behind its reports, of which the last step may be cut short by `cut` words: the replies, the
@@ -195,8 +205,7 @@ static void as_one_by_one(struct size size, size_t count, size_t cut, size_t pla
     for (size_t k = 0; k < count; k++) {
         const uint32_t *step = steps + k * ZIDLEMOWO_STEP_WORDS;
         const uint64_t reply = zidlemowo_step(words, need, step[0], step[1], step[2]);
-        const uint32_t report[ZIDLEMOWO_REPORT_WORDS] = {step[0], step[1], zidlemowo_kind(reply), zidlemowo_detail(reply)};
-        memcpy(expected + k * ZIDLEMOWO_REPORT_WORDS, report, sizeof report);
+        report_of(expected + k * ZIDLEMOWO_REPORT_WORDS, step, reply);
     }
     keep(registers);
     keep(row_steps);
@@ -221,6 +230,47 @@ static void listing(void) {
         demand("a report's code", report[ZIDLEMOWO_REPORT_CODE], steps[3 * k + 1]);
         demand("a report's kind", report[ZIDLEMOWO_REPORT_KIND], replies[k]);
         demand("a report's detail", report[ZIDLEMOWO_REPORT_DETAIL], k == 6 ? ZIDLEMOWO_TORN : 0);
+        demand("a report's cell", report[ZIDLEMOWO_REPORT_CELL], 0);
+    }
+    taken++;
+}
+
+// Every abort in one row, each with its reason and its cell in words of their own: K11, a cell overtaken, one spent, and a give up. Words in
+// front of the reports and behind them stay.
+static void aborts(void) {
+    static const uint32_t steps[] = {
+        1, 0, 0, 1, 65, 3, 1, 1, 0, 0, 0,  0, 0, 33, 0, 2, 0, 0, 2, 64, 4, 2, 65, 8, 2, 1, 0, 0, 32, 0, // K11: abort 1 cell 1
+        0, 0, 0, 0, 32, 0, 0, 33, 0, 1, 0, 0, 1, 65, 9, 1, 1, 0, 0, 1,  0,                              // cell 1 is overtaken: abort 2
+        0, 0, 0, 0, 64, 6, 0, 65, 6, 0, 1, 0,                                                           // and spent: abort 3
+        0, 0, 0, 0, 65, 6, 0, 2,  0,                                                                    // abort 5, which names none
+    };
+    static const uint32_t expected[][ZIDLEMOWO_REPORT_WORDS] = {
+        {0, 32, ZIDLEMOWO_ABORT, ZIDLEMOWO_TORN, 1},
+        {0, 1, ZIDLEMOWO_ABORT, ZIDLEMOWO_OVERTAKEN, 1},
+        {0, 1, ZIDLEMOWO_ABORT, ZIDLEMOWO_SPENT, 1},
+        {0, 2, ZIDLEMOWO_ABORT, ZIDLEMOWO_GAVE_UP, 0},
+    };
+    enum { PLACE = 3, BEHIND = 4, STEPS = COUNT(steps) / ZIDLEMOWO_STEP_WORDS };
+    uint32_t words[ZIDLEMOWO_WORDS(2, 3)], reports[PLACE + STEPS * ZIDLEMOWO_REPORT_WORDS + BEHIND];
+    demand("an opening", zidlemowo_open(words, COUNT(words), 2, 3), 0);
+    words[7] = ZIDLEMOWO_MOST_NUMBER - 3; // cell 1's own number: the three commits of the row spend it
+    for (size_t k = 0; k < COUNT(reports); k++) {
+        reports[k] = FILLER;
+    }
+    demand("aborts", zidlemowo_row(words, COUNT(words), steps, COUNT(steps), reports, COUNT(reports), PLACE), 0);
+    size_t met = 0;
+    for (size_t k = 0; k < STEPS; k++) {
+        const uint32_t *report = reports + PLACE + k * ZIDLEMOWO_REPORT_WORDS;
+        for (size_t w = 0; report[ZIDLEMOWO_REPORT_KIND] == ZIDLEMOWO_ABORT && w < ZIDLEMOWO_REPORT_WORDS; w++) {
+            demand("an abort's report", report[w], met < COUNT(expected) ? expected[met][w] : FILLER);
+        }
+        met += report[ZIDLEMOWO_REPORT_KIND] == ZIDLEMOWO_ABORT;
+    }
+    demand("the aborts of a row", met, COUNT(expected));
+    for (size_t k = 0; k < COUNT(reports); k++) {
+        if (k < PLACE || k >= COUNT(reports) - BEHIND) {
+            demand("a word around the reports", reports[k], FILLER);
+        }
     }
     taken++;
 }
@@ -230,6 +280,7 @@ int main(void) {
     row_steps = room_of(STEPS_ROOM);
     row_reports = room_of(REPORTS_ROOM);
     listing();
+    aborts();
     for (size_t k = 0; k < COUNT(sizes); k++) {
         no_register(sizes[k]);
         no_room(sizes[k]);

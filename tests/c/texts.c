@@ -37,6 +37,17 @@ static void rows(uint32_t kind) {
     demand("the largest detail has a text", !is_known(kind, UINT32_MAX));
 }
 
+// Every cell that there can be has the text of its abort's reason, where one is named; no other has a text.
+static void cells(void) {
+    for (uint32_t reason = 0; reason <= 10; reason++) {
+        for (uint32_t cell = 1; cell <= ZIDLEMOWO_MOST_NUMBER; cell++) {
+            const char *text = zidlemowo_text(ZIDLEMOWO_ABORT, cell * ZIDLEMOWO_ABORT_CELL + reason);
+            const int named = reason != ZIDLEMOWO_GAVE_UP && cell < ZIDLEMOWO_MOST_CELLS;
+            demand("an abort's text depends on the cell", strcmp(text, named ? zidlemowo_reason_text(reason) : zidlemowo_no_text()) == 0);
+        }
+    }
+}
+
 // The version's parts make its text.
 static void version(void) {
     char text[32];
@@ -46,6 +57,7 @@ static void version(void) {
 
 int main(void) {
     version();
+    cells();
     for (uint32_t kind = 0; kind <= 20; kind++) {
         if (kind == ZIDLEMOWO_VALUE) {
             values();

@@ -1,4 +1,4 @@
-// What the judge asks of its words: the writer of a cell's present version, whether a first read is torn, whether a version read is
+// What the judge asks of its words: the writer of a cell's present version, by which cell a first read is torn, which version read is
 // stale, and what cells and copies show. All of it is told by the commits and the deeds that the words say.
 // Internal: called by our crates alone, which show what each function requires.
 ghost use mathlib.Core.Path.{_≡_};
@@ -6,7 +6,7 @@ ghost use mathlib.Core.Bool.{_&&_, _||_};
 ghost use Prim.Native.Nat.{ℕ, _≤_, _<_};
 ghost use lib.ListN.{length};
 ghost use lib.Dec.{ltb};
-ghost use Rattle.rules.specs.steps.Tables.{someBelow};
+ghost use Rattle.rules.specs.steps.Tables.{lowest};
 ghost use Rattle.rules.specs.history.History.{hasRead, hasWritten, writer, everyCommit};
 ghost use Rattle.rules.specs.history.Past as Past;
 ghost use Rattle.rules.specs.history.Replay.{replay};
@@ -16,7 +16,9 @@ ghost use Rattle.limits.specs.Limits.{mostCells, ledgerRows};
 ghost use Rattle.ledger.specs.Entries.{ledgerLong, mostCommits, commitRow, entryIn};
 ghost use Rattle.ledger.specs.Histories.{deedsOf, commitsIn};
 ghost use Rattle.past.specs.Marks.{marked};
+ghost use Rattle.words.specs.Sets.{foundIs};
 use replies::Content;
+use words::Found;
 
 // A version of a cell: the place of the commit that wrote it, 0 for the opening's, and its number among the cell's versions.
 pub struct Version {
@@ -160,18 +162,19 @@ fn is_outdated(words: &[u32], row: usize, y: usize, count: usize, marks: u64) ->
     has_later(words, y, noted - 1, count, marks)
 }
 
-// Whether the commit at a place, or a commit in its causal past, wrote a later version than one that a row's transaction read.
-pub fn tears(words: &[u32], m: usize, row: usize, count: usize, place: usize) -> bool
+// The lowest cell of which the commit at a place, or a commit in its causal past, wrote a later version than the one that a row's
+// transaction read.
+pub fn torn_cell(words: &[u32], m: usize, row: usize, count: usize, place: usize) -> Found
     requires { ⌜ (ledgerLong ≤ length (now words)) × (m ≤ mostCells) × (row < ledgerRows) × (count ≤ mostCommits) × (place ≤ count) ⌝ }
-    ensures { λ r. ⌜ r ≡ Past.tears m (commitsIn m (now (words .entry)) count) (deedsOf (entryIn (now (words .entry)) row) m) place ⌝ }
+    ensures { λ r. ⌜ foundIs r ≡ Past.tearsAt m (commitsIn m (now (words .entry)) count) (deedsOf (entryIn (now (words .entry)) row) m) place ⌝ }
 {
     let marks = past::past_of_version(words, m, place, 0);
     for y in 0..m {
         if is_outdated(words, row, y, count, marks) {
-            return true;
+            return Found::Cell(y as u8);
         }
     }
-    false
+    Found::Nothing
 }
 
 // Whether a row's transaction read the cell y in another version than the present one.
@@ -187,15 +190,15 @@ fn is_overtaken(words: &[u32], row: usize, y: usize, count: usize) -> bool
     noted - 1 != writer_of(words, y, count)
 }
 
-// Whether a version that a row's transaction read is not the present one.
-pub fn is_stale(words: &[u32], m: usize, row: usize, count: usize) -> bool
+// The lowest cell that a row's transaction read in another version than the present one.
+pub fn overtaken_cell(words: &[u32], m: usize, row: usize, count: usize) -> Found
     requires { ⌜ (ledgerLong ≤ length (now words)) × (m ≤ mostCells) × (row < ledgerRows) × (count ≤ mostCommits) ⌝ }
-    ensures { λ r. ⌜ r ≡ someBelow m (stale (commitsIn m (now (words .entry)) count) (deedsOf (entryIn (now (words .entry)) row) m)) ⌝ }
+    ensures { λ r. ⌜ foundIs r ≡ lowest m (stale (commitsIn m (now (words .entry)) count) (deedsOf (entryIn (now (words .entry)) row) m)) ⌝ }
 {
-    for y in 0..m {
-        if is_overtaken(words, row, y, count) {
-            return true;
+    for z in 0..m {
+        if is_overtaken(words, row, z, count) {
+            return Found::Cell(z as u8);
         }
     }
-    false
+    Found::Nothing
 }

@@ -5,7 +5,7 @@ use Rattle.rules.specs.steps.Tables.{put, orElse, lowest, someBelow}
 use Rattle.rules.specs.steps.Codes.{plainSheet}
 use Rattle.rules.specs.steps.Register.{withHandler, idle, blank, fresh}
 use Rattle.rules.specs.steps.Checks.{firstHit, stepChecks, inRange, openingChecks}
-use Rattle.rules.specs.steps.Figure.{joined, taken, wrote, versionShows, shown, stamped, stored, begun, isTorn, isOvertaken, isSpent}
+use Rattle.rules.specs.steps.Figure.{joined, taken, wrote, versionShows, shown, stamped, stored, begun, tornCell, overtakenCell, spentCell}
 use Rattle.rules.specs.steps.Figure.{aborting, committing, unlessAborted, readChecks, tryChecks, firstRead, reading, trying, step}
 use Rattle.rules.specs.steps.Turn.{stepRefusal, turned, turn}
 use Rattle.rules.specs.demand.Cases.{cases}
@@ -24,6 +24,6 @@ unfolding made said playFrom playLines openingNumbers saidReplies saidCounts sai
     everyBelow numbersFit isGoodBlock isGoodBody isWellFormed viewCell viewHandler view pourCell pourHandler pour
     hasBit mask row rows below put orElse lowest someBelow plainSheet
     withHandler idle blank fresh firstHit stepChecks inRange openingChecks
-    joined taken wrote versionShows shown stamped stored begun isTorn isOvertaken isSpent aborting committing
+    joined taken wrote versionShows shown stamped stored begun tornCell overtakenCell spentCell aborting committing
     unlessAborted readChecks tryChecks firstRead reading trying step stepRefusal turned turn
 all-cases = refl

@@ -10,7 +10,7 @@ use Rattle.rules.specs.steps.Codes.{plainSheet}
 use Rattle.rules.specs.steps.Replies.{Reason, Outcome, ok, committed, aborted, Refusal, Report, Reply, reported, refused, outcomeNumbers, replyNumbers}
 use Rattle.rules.specs.steps.Register.{Register, Handler, Cell, withHandler, idle}
 use Rattle.rules.specs.steps.Checks.{firstHit, stepChecks, inRange}
-use Rattle.rules.specs.steps.Figure.{begun, stamped, stored, isOvertaken, isSpent, aborting, committing, unlessAborted, tryChecks, trying, step}
+use Rattle.rules.specs.steps.Figure.{begun, stamped, stored, overtakenCell, spentCell, aborting, committing, unlessAborted, tryChecks, trying, step}
 use Rattle.rules.specs.steps.Turn.{stepRefusal, turned, turn}
 use Rattle.layout.specs.Bits.{hasBit, mask}
 use Rattle.layout.specs.Rows.{row, rows, below}
@@ -47,7 +47,7 @@ computed : OneTransaction
 unfolding inPhase turnOf stepWords
     everyBelow numbersFit isGoodBlock isGoodBody isWellFormed viewCell viewHandler view pourCell pourHandler pour
     hasBit mask row rows below put orElse lowest someBelow plainSheet withHandler idle firstHit stepChecks inRange
-    stamped stored begun isOvertaken isSpent aborting committing unlessAborted tryChecks trying step stepRefusal turned turn
+    stamped stored begun overtakenCell spentCell aborting committing unlessAborted tryChecks trying step stepRefusal turned turn
 computed = record { begun = refl; phase = refl; tried = refl }
 
 module _ {e : Engine} (keeps : KeepsPromise e) where
@@ -117,7 +117,7 @@ two-cells : TwoCells
 unfolding bothWritten onePass storedAtOnce turnOf stepWords
     everyBelow numbersFit isGoodBlock isGoodBody isWellFormed viewCell viewHandler view pourCell pourHandler pour
     hasBit mask row rows below put orElse lowest someBelow plainSheet withHandler idle firstHit stepChecks inRange
-    stamped stored begun isOvertaken isSpent aborting committing unlessAborted tryChecks trying step stepRefusal turned turn
+    stamped stored begun overtakenCell spentCell aborting committing unlessAborted tryChecks trying step stepRefusal turned turn
 two-cells = record { tried = refl; raised = refl; missed = refl }
 
 -- No engine that keeps the promise commits in one pass.

@@ -14,7 +14,7 @@ pub record Seen : Type 0 where
 
 -- The reply to an opening, in numbers.
 unfoldable pub openingNumbers : Opening → Numbers
-openingNumbers ready = record { kind = 0; detail = 0 }
+openingNumbers ready = record { kind = 0; detail = 0; cell = 0 }
 openingNumbers (refused refusal) = refusalNumbers refusal
 
 -- The lines of a case, one after another.

@@ -51,17 +51,17 @@ unfolding added taken raised raisedBy isIn
 try-committed = refl
 
 -- Each reason of an abort adds to its own count.
-read-torn : taken 32 (Rules.aborted Rules.torn) ≡ 0 ∷ 0 ∷ 1 ∷ 0 ∷ 0 ∷ 0 ∷ []
+read-torn : (y : ℕ) → taken 32 (Rules.aborted (Rules.torn y)) ≡ 0 ∷ 0 ∷ 1 ∷ 0 ∷ 0 ∷ 0 ∷ []
 unfolding added taken raised raisedBy isIn
-read-torn = refl
+read-torn y = refl
 
-try-overtaken : taken 1 (Rules.aborted Rules.overtaken) ≡ 0 ∷ 0 ∷ 0 ∷ 1 ∷ 0 ∷ 0 ∷ []
+try-overtaken : (z : ℕ) → taken 1 (Rules.aborted (Rules.overtaken z)) ≡ 0 ∷ 0 ∷ 0 ∷ 1 ∷ 0 ∷ 0 ∷ []
 unfolding added taken raised raisedBy isIn
-try-overtaken = refl
+try-overtaken z = refl
 
-try-spent : taken 1 (Rules.aborted Rules.spent) ≡ 0 ∷ 0 ∷ 0 ∷ 0 ∷ 1 ∷ 0 ∷ []
+try-spent : (z : ℕ) → taken 1 (Rules.aborted (Rules.spent z)) ≡ 0 ∷ 0 ∷ 0 ∷ 0 ∷ 1 ∷ 0 ∷ []
 unfolding added taken raised raisedBy isIn
-try-spent = refl
+try-spent z = refl
 
 gave-up : taken 2 (Rules.aborted Rules.gaveUp) ≡ 0 ∷ 0 ∷ 0 ∷ 0 ∷ 0 ∷ 1 ∷ []
 unfolding added taken raised raisedBy isIn

@@ -28,9 +28,9 @@ unfoldable pub raisedBy : Kind → Outcome ℕ → Option Count
 raisedBy kind ok = if isBegin kind then (some begun) else none
 raisedBy kind (shows content) = none
 raisedBy kind Rules.committed = some committed
-raisedBy kind (aborted Rules.torn) = some torn
-raisedBy kind (aborted Rules.overtaken) = some overtaken
-raisedBy kind (aborted Rules.spent) = some spent
+raisedBy kind (aborted (Rules.torn y)) = some torn
+raisedBy kind (aborted (Rules.overtaken z)) = some overtaken
+raisedBy kind (aborted (Rules.spent z)) = some spent
 raisedBy kind (aborted Rules.gaveUp) = some gaveUp
 
 -- The count that the reply to a step code raises; a refused step raises none.

@@ -47,9 +47,9 @@ fn outcome_column(kind: Kind, outcome: Outcome) -> usize
         Outcome::Shows(_) => NO_COLUMN,
         Outcome::Committed => 1,
         Outcome::Aborted(reason) => match reason {
-            Reason::Torn => 2,
-            Reason::Overtaken => 3,
-            Reason::Spent => 4,
+            Reason::Torn(_) => 2,
+            Reason::Overtaken(_) => 3,
+            Reason::Spent(_) => 4,
             Reason::GaveUp => 5,
         },
     }

@@ -1,13 +1,16 @@
 -- Nothing of an answer is lost in its number: a length, the answer to an opening, to a step, to a file for a sheet and to a row can each be
 -- told from it.
-use Prim.Native.Nat.{ℕ, _^_, _≤_, _<_}
+use Prim.Native.Nat.{ℕ, _+_, _*_, _/_, _%_, _^_, _≤_, _<_}
 use native.Mathlib.Omega.{arith}
-use mathlib.Core.Path.{_≡_, refl, sym, ap}
+use mathlib.Core.Path.{_≡_, refl, sym, ap, _∙_}
 use mathlib.Core.Option.{none, some}
-use Rattle.rules.specs.steps.Replies.{torn, overtaken, spent, gaveUp, unset, value, Outcome, ok, shows, committed, aborted, Refusal, Reply, reported}
+use lib.Dec.{eqb}
+use borrow.Author.Tests.{eqb-true, eqb-false}
+use Rattle.rules.specs.steps.Tables.{placeOf}
+use Rattle.rules.specs.steps.Replies.{Reason, torn, overtaken, spent, gaveUp, unset, value, Outcome, ok, shows, committed, aborted, Refusal, Reply, reported}
 use Rattle.rules.specs.steps.Replies.{Opening, ready, notWellFormed, noHandler, noCell, alreadyOpen, notOpen, unknownStep, outOfRange, tooShort}
 use Rattle.rules.specs.steps.Replies.{badFile, usedUp, tooManyCommits, sheetFull, noRoom}
-use Rattle.rules.specs.steps.Replies.{Numbers, refusalNumber, outcomeNumbers, refusalNumbers, replyNumbers}
+use Rattle.rules.specs.steps.Replies.{Numbers, reasonNumber, reasonCell, refusalNumber, outcomeNumbers, refusalNumbers, replyNumbers}
 use Rattle.rules.specs.demand.Demand.{reportedTo}
 use Rattle.rules.specs.steps.Checks.{inRange}
 use Rattle.rules.proofs.steps.Tables.{by}
@@ -16,15 +19,41 @@ use Rattle.layout.specs.Places.{size}
 use Rattle.promises.specs.Lengths.{lengthFor}
 use Rattle.gateway.specs.Packed.{lengthNumber, openingNumber, packed, refusedNumber}
 
--- ── Kind and detail ───────────────────────────────────────────────────
+-- ── Kind, cell and detail ─────────────────────────────────────────────
 
--- A detail that fits a word, and its kind, can be told from the one number.
-pub packed-apart : (a b : Numbers) → a .detail < 2 ^ 32 → b .detail < 2 ^ 32 → packed a ≡ packed b → a ≡ b
+-- Cell and detail fit a word together; only an abort names a cell, and there each fits its half of the word.
+pub record FitsWord (n : Numbers) : Type 0 where
+  pub word : n .cell * 65536 + n .detail < 2 ^ 32
+  pub alone : (n .kind ≡ 3 → ⊥) → n .cell ≡ 0
+  pub half : n .kind ≡ 3 → n .detail < 65536
+
+-- Numbers that fit can be told from the one number.
+pub packed-apart : (a b : Numbers) → FitsWord a → FitsWord b → packed a ≡ packed b → a ≡ b
 unfolding packed
-packed-apart a b small other e =
-    let kinds : a .kind ≡ b .kind = omega (arith, small, other, e) in
-    let details : a .detail ≡ b .detail = omega (arith, small, other, e) in
-    λ t. record { kind = kinds t; detail = details t }
+packed-apart a b small other e = λ t. record { kind = kinds t; detail = details t; cell = cells t }
+  where
+    kinds : a .kind ≡ b .kind
+    kinds = omega (arith, small .word, other .word, e)
+
+    cells : a .cell ≡ b .cell
+    cells = by (eqb (a .kind) 3)
+        (λ q. let three = eqb-true (a .kind) 3 q in
+        omega (arith, small .half three, other .half (sym kinds ∙ three), small .word, other .word, kinds, e))
+        (λ q. let apart = eqb-false (a .kind) 3 q in
+        small .alone apart ∙ sym (other .alone (λ three. apart (kinds ∙ three))))
+
+    details : a .detail ≡ b .detail
+    details = omega (arith, kinds, cells, e)
+
+-- The halves of an abort's word, as the header takes them apart.
+pub abort-halves : (reason : Reason) → placeOf (reasonCell reason) < 65536
+    → let number = packed (outcomeNumbers (aborted reason)) in
+    (number / 2 ^ 32 ≡ 3) × ((number % 2 ^ 32) / 65536 ≡ placeOf (reasonCell reason)) × ((number % 2 ^ 32) % 65536 ≡ reasonNumber reason)
+unfolding packed
+abort-halves (torn y) small = (omega (arith, small), omega (arith, small), omega (arith, small))
+abort-halves (overtaken z) small = (omega (arith, small), omega (arith, small), omega (arith, small))
+abort-halves (spent z) small = (omega (arith, small), omega (arith, small), omega (arith, small))
+abort-halves gaveUp small = (omega arith, omega arith, omega arith)
 
 -- No kind is more than that of what is unset.
 pub kind-small : (reply : Reply ℕ) → replyNumbers reply .kind ≤ 5
@@ -40,31 +69,44 @@ kind-small (Reply.refused refusal) = omega arith
 
 -- ── A step ────────────────────────────────────────────────────────────
 
--- A value that fits a word.
+-- A value that fits a word, and a cell that fits half of one.
 abbrev Fits : Outcome ℕ → Type 0
 Fits ok = Unit {0}
 Fits (shows unset) = Unit {0}
 Fits (shows (value v)) = v < 2 ^ 32
 Fits committed = Unit {0}
-Fits (aborted reason) = Unit {0}
+Fits (aborted reason) = placeOf (reasonCell reason) < 65536
 
 -- What a handler that asked by a code can be answered: an outcome reported to it, or a refusal.
 pub data AnswerTo (handler code : ℕ) : Reply ℕ → Type 0 where
   came : (outcome : Outcome ℕ) → Fits outcome → AnswerTo handler code (reportedTo handler code outcome)
   stopped : (refusal : Refusal) → AnswerTo handler code (Reply.refused refusal)
 
--- The detail of an outcome fits a word,
-outcome-small : (outcome : Outcome ℕ) → Fits outcome → outcomeNumbers outcome .detail < 2 ^ 32
-outcome-small ok fits = omega arith
-outcome-small (shows unset) fits = omega arith
-outcome-small (shows (value v)) fits = fits
-outcome-small committed fits = omega arith
-outcome-small (aborted torn) fits = omega arith
-outcome-small (aborted overtaken) fits = omega arith
-outcome-small (aborted spent) fits = omega arith
-outcome-small (aborted gaveUp) fits = omega arith
+-- Where no cell is named, a detail that fits a word fits.
+no-cell-fits : (kind detail : ℕ) → (kind ≡ 3 → ⊥) → detail < 2 ^ 32 → FitsWord (record { kind = kind; detail = detail; cell = 0 })
+no-cell-fits kind detail apart fits = record { word = omega (arith, fits); alone = λ _. refl; half = λ e. absurd (apart e) }
 
--- and so does a refusal's number, which is not 0.
+-- An abort's cell and its number each fit half a word.
+abort-fits : (reason : Reason) → placeOf (reasonCell reason) < 65536 → FitsWord (outcomeNumbers (aborted reason))
+abort-fits reason fits =
+    let small : reasonNumber reason < 10 = reason-small reason in
+    record { word = omega (arith, fits, small); alone = λ apart. absurd (apart refl); half = λ _. omega (arith, small) }
+  where
+    reason-small : (reason : Reason) → reasonNumber reason < 10
+    reason-small (torn y) = omega arith
+    reason-small (overtaken z) = omega arith
+    reason-small (spent z) = omega arith
+    reason-small gaveUp = omega arith
+
+-- The numbers of an outcome fit,
+outcome-small : (outcome : Outcome ℕ) → Fits outcome → FitsWord (outcomeNumbers outcome)
+outcome-small ok fits = no-cell-fits 0 0 (λ e. absurd (omega (arith, e))) (omega arith)
+outcome-small (shows unset) fits = no-cell-fits 5 0 (λ e. absurd (omega (arith, e))) (omega arith)
+outcome-small (shows (value v)) fits = no-cell-fits 1 v (λ e. absurd (omega (arith, e))) fits
+outcome-small committed fits = no-cell-fits 2 0 (λ e. absurd (omega (arith, e))) (omega arith)
+outcome-small (aborted reason) fits = abort-fits reason fits
+
+-- A refusal's number fits a word, and is not 0.
 refusal-between : (refusal : Refusal) → (0 < refusalNumber refusal) × (refusalNumber refusal < 2 ^ 32)
 refusal-between notWellFormed = omega arith
 refusal-between noHandler = omega arith
@@ -80,6 +122,10 @@ refusal-between tooManyCommits = omega arith
 refusal-between sheetFull = omega arith
 refusal-between noRoom = omega arith
 
+-- So do those of a refusal.
+refusal-small : (refusal : Refusal) → FitsWord (refusalNumbers refusal)
+refusal-small refusal = no-cell-fits 4 (refusalNumber refusal) (λ e. absurd (omega (arith, e))) (refusal-between refusal .1)
+
 -- What was answered can be told from the number.
 pub step-told : {handler code : ℕ} {a b : Reply ℕ} → AnswerTo handler code a → AnswerTo handler code b
     → packed (replyNumbers a) ≡ packed (replyNumbers b) → a ≡ b
@@ -87,11 +133,11 @@ step-told {handler} {code} (came a fits) (came b fitsToo) e =
     ap (reportedTo handler code)
     (outcomes-apart a b (packed-apart (outcomeNumbers a) (outcomeNumbers b) (outcome-small a fits) (outcome-small b fitsToo) e))
 step-told (came a fits) (stopped b) e =
-    absurd (outcome-no-refusal a b (packed-apart (outcomeNumbers a) (refusalNumbers b) (outcome-small a fits) (refusal-between b .1) e))
+    absurd (outcome-no-refusal a b (packed-apart (outcomeNumbers a) (refusalNumbers b) (outcome-small a fits) (refusal-small b) e))
 step-told (stopped a) (came b fits) e =
-    absurd (outcome-no-refusal b a (packed-apart (outcomeNumbers b) (refusalNumbers a) (outcome-small b fits) (refusal-between a .1) (sym e)))
+    absurd (outcome-no-refusal b a (packed-apart (outcomeNumbers b) (refusalNumbers a) (outcome-small b fits) (refusal-small a) (sym e)))
 step-told (stopped a) (stopped b) e =
-    let same = packed-apart (refusalNumbers a) (refusalNumbers b) (refusal-between a .1) (refusal-between b .1) e in
+    let same = packed-apart (refusalNumbers a) (refusalNumbers b) (refusal-small a) (refusal-small b) e in
     ap Reply.refused (refusals-apart a b (ap (λ n. n .detail) same))
 
 -- ── An opening, a length, a sheet, and a row ──────────────────────────

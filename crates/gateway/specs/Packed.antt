@@ -1,5 +1,5 @@
 -- The promises of the register, of a row of steps and of a duty sheet said of numbers: 0 or a length, 0 or a refusal's number, and
--- kind · 2^32 + value or number.
+-- kind · 2^32 + cell · 65,536 + value or number.
 use Prim.Native.Nat.{ℕ, _+_, _*_, _^_}
 use mathlib.Core.List.{List}
 use mathlib.Core.Option.{Option, none, some}
@@ -21,9 +21,9 @@ abbrev pub openingNumber : Opening → ℕ
 openingNumber ready = 0
 openingNumber (refused refusal) = refusalNumber refusal
 
--- A kind and a detail in one number.
+-- A kind, a cell and a detail in one number; only an abort has a cell, and its detail is a reason's number.
 unfoldable pub packed : Numbers → ℕ
-packed n = n .kind * 2 ^ 32 + n .detail
+packed n = n .kind * 2 ^ 32 + (n .cell * 65536 + n .detail)
 
 -- What an operation of the register comes to, with its reply said as a number.
 abbrev pub inNumbers : {Given Reply Left : Type 0} → (Reply → ℕ) → (Given → Due Reply Left) → Given → Due ℕ Left

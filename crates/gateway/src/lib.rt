@@ -3,8 +3,10 @@
 ghost use mathlib.Core.Path.{_≡_};
 ghost use Prim.Native.Nat.{_+_, _*_, _^_, _≤_};
 ghost use Rattle.prints.specs.Printed.{RunPromise, JudgedRunPromise};
-ghost use Rattle.gateway.specs.Packed.{LengthNumber, OpeningNumber, StepNumber, SheetNumber, RowNumber};
+ghost use Rattle.replies.specs.Meaning.{replyIs};
+ghost use Rattle.gateway.specs.Packed.{replyNumber, LengthNumber, OpeningNumber, StepNumber, SheetNumber, RowNumber};
 use register::Needed;
+use replies::Answer;
 use replies::Opened;
 use rows::Rowed;
 use sheets::Added;
@@ -31,21 +33,34 @@ pub extern "C" fn zidlemowo_open(words: &mut [u32], m: u32, n: u32) -> u32
     }
 }
 
-// A kind and a detail in one number.
-fn pack(kind: u32, detail: u32) -> u64
+// A kind, a cell and a detail in one number.
+fn pack(kind: u32, cell: u32, detail: u32) -> u64
     requires { ⌜ kind ≤ 5 ⌝ }
-    ensures { λ r. ⌜ r ≡ kind * 2 ^ 32 + detail ⌝ }
+    ensures { λ r. ⌜ r ≡ kind * 2 ^ 32 + (cell * 65536 + detail) ⌝ }
 {
-    (kind as u64) * 4294967296 + (detail as u64)
+    (kind as u64) * 4294967296 + ((cell as u64) * 65536 + (detail as u64))
 }
 
-// Takes the step of a handler: kind · 2^32 + value or number.
+// The answer to a step in one number. A refusal is packed by itself: it names no cell, and has nothing to add.
+fn pack_answer(answer: Answer) -> u64
+    ensures { λ r. ⌜ r ≡ replyNumber (replyIs answer) ⌝ }
+{
+    match answer {
+        Answer::Reported(report) => {
+            let outcome = report.outcome;
+            let numbers = replies::outcome_numbers(outcome);
+            pack(numbers.kind, numbers.cell, numbers.detail)
+        }
+        Answer::Refused(refusal) => pack(4, 0, replies::refusal_number(refusal)),
+    }
+}
+
+// Takes the step of a handler: kind · 2^32 + cell · 65,536 + value or number.
 #[no_mangle]
 pub extern "C" fn zidlemowo_step(words: &mut [u32], handler: u32, code: u32, value: u32) -> u64
     ensures { λ r. ⌜ StepNumber (now (words .entry)) handler code value r (now (words .exit)) ⌝ }
 {
-    let numbers = replies::numbers_of(register::step(words, handler, code, value));
-    pack(numbers.kind, numbers.detail)
+    pack_answer(register::step(words, handler, code, value))
 }
 
 // Takes the steps of a row, and puts the report of each from a place on: 0, or the refusal's number.

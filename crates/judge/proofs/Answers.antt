@@ -3,14 +3,15 @@ use Prim.Native.Nat.{ℕ, _<_}
 use native.Mathlib.Omega.{arith}
 use mathlib.Core.Path.{_≡_, sym, ap, ap₂, _∙_}
 use mathlib.Core.Bool.{Bool, true, false, _||_}
-use mathlib.Core.List.{List}
-use Rattle.rules.specs.steps.Tables.{if_then_else_, someBelow}
+use mathlib.Core.List.{List, [], _∷_}
+use mathlib.Core.Option.{Option, none, some}
+use Rattle.rules.specs.steps.Tables.{lowest}
 use Rattle.rules.specs.steps.Codes.{Step, try, read}
 use Rattle.rules.specs.steps.Replies.{torn, overtaken, Content, shows, committed, aborted}
 use Rattle.rules.specs.steps.Register.{Setting}
-use Rattle.rules.specs.steps.Checks.{firstHit}
+use Rattle.rules.specs.steps.Checks.{_naming_, firstHit}
 use Rattle.rules.specs.history.History.{Deed, Commit, hasRead, hasWritten, writer, everyCommit}
-use Rattle.rules.specs.history.Past.{tears}
+use Rattle.rules.specs.history.Past.{tearsAt}
 use Rattle.rules.specs.history.Replay.{replay}
 use Rattle.rules.specs.demand.Judge.{copied, stale, orAborted, answerRead, answerTry, answer}
 use Rattle.rules.proofs.demand.NeverSpent.{short-try}
@@ -46,13 +47,13 @@ module _ (words : List ℕ) where
   abbrev pub touched : ℕ → ℕ → Bool
   touched i x = hasRead (deeds i) x || hasWritten (deeds i) x
 
-  -- The version of x that the commits leave is torn from what handler i has read.
-  abbrev pub isTorn : ℕ → ℕ → Bool
-  isTorn i x = tears (cellsOf words) commits (deeds i) (writer commits x)
+  -- The lowest cell by which the version of x that the commits leave is torn from what handler i has read, if there is one.
+  abbrev pub tornBy : ℕ → ℕ → Option ℕ
+  tornBy i x = tearsAt (cellsOf words) commits (deeds i) (writer commits x)
 
-  -- Handler i has read a version that is not the present one.
-  abbrev pub isStale : ℕ → Bool
-  isStale i = someBelow (cellsOf words) (stale commits (deeds i))
+  -- The lowest cell that handler i has read in a version that is not the present one, if there is one.
+  abbrev pub staleCell : ℕ → Option ℕ
+  staleCell i = lowest (cellsOf words) (stale commits (deeds i))
 
 module _ {words : List ℕ} {i : ℕ} (ledger : Ledger words) (seat : i < handlersOf words) where
   -- The answer to a read is asked of the row and of the commits,
@@ -61,7 +62,7 @@ module _ {words : List ℕ} {i : ℕ} (ledger : Ledger words) (seat : i < handle
   read-asked x = ap (λ (done : List (Deed ℕ)). answerRead (S words) (commits words) done x) (now-is ledger seat)
 
   -- and so is the answer to a try: there are too few commits for abort 3.
-  pub try-asked : answerOf words i try ≡ (if isStale words i then (aborted overtaken) else committed)
+  pub try-asked : answerOf words i try ≡ orAborted (firstHit ((overtaken naming staleCell words i) ∷ [])) committed
   unfolding answer historyIn
   try-asked =
       ap (answerTry (S words) (commits words)) (now-is ledger seat)
@@ -79,12 +80,12 @@ module _ {words : List ℕ} {m i x : ℕ} (ready : JudgeReady words m i (read x)
 
   module _ (first : touched words i x ≡ false) where
     -- a first read of another with abort 1 where it is torn,
-    answer-torn : isTorn words i x ≡ true → answerOf words i (read x) ≡ aborted torn
+    answer-torn : (y : ℕ) → tornBy words i x ≡ some y → answerOf words i (read x) ≡ aborted (torn y)
     unfolding answerRead firstHit orAborted
-    answer-torn t = read-asked (ready .ledger) (ready .handler) x ∙ rw (first, t)
+    answer-torn y t = read-asked (ready .ledger) (ready .handler) x ∙ rw (first, t)
 
     -- and else with what the present version shows.
-    answer-first : isTorn words i x ≡ false → answerOf words i (read x) ≡ shows (replay (commits words) everyCommit x)
+    answer-first : tornBy words i x ≡ none → answerOf words i (read x) ≡ shows (replay (commits words) everyCommit x)
     unfolding answerRead firstHit orAborted
     answer-first t = read-asked (ready .ledger) (ready .handler) x ∙ rw (first, t)
 
@@ -104,12 +105,12 @@ module _ {words : List ℕ} {m i x : ℕ} (ready : JudgeReady words m i (read x)
   }
 
   -- one that is torn ends the transaction,
-  pub takes-torn : touched words i x ≡ false → isTorn words i x ≡ true → (v : ℕ) {after : List ℕ}
-      → {row : ℕ} → row ≡ handlerRow i → after ≡ withEntry words row (emptyEntry 0) → TakesNoted words i (read x) v (aborted torn) after
+  pub takes-torn : touched words i x ≡ false → (y : ℕ) → tornBy words i x ≡ some y → (v : ℕ) {after : List ℕ}
+      → {row : ℕ} → row ≡ handlerRow i → after ≡ withEntry words row (emptyEntry 0) → TakesNoted words i (read x) v (aborted (torn y)) after
   unfolding noteOutcome
-  takes-torn first t v there left = record {
-    replied = sym (answer-torn first t);
-    left = in-row words i (λ _. emptyEntry 0) there left ∙ rw (answer-torn first t);
+  takes-torn first y t v there left = record {
+    replied = sym (answer-torn first y t);
+    left = in-row words i (λ _. emptyEntry 0) there left ∙ rw (answer-torn first y t);
   }
 
   -- A first read of a cell not written is noted with the commit that wrote what it found.
@@ -119,7 +120,7 @@ module _ {words : List ℕ} {m i x : ℕ} (ready : JudgeReady words m i (read x)
   first-noted first found = rw (touched-is ∙ first)
 
   -- and another is noted.
-  pub takes-first : touched words i x ≡ false → isTorn words i x ≡ false → (v place word : ℕ) (found : Content ℕ) {after : List ℕ}
+  pub takes-first : touched words i x ≡ false → tornBy words i x ≡ none → (v place word : ℕ) (found : Content ℕ) {after : List ℕ}
       → place ≡ writer (commits words) x → found ≡ replay (commits words) everyCommit x → word ≡ contentWord found
       → {row : ℕ} → row ≡ handlerRow i → after ≡ withEntry words row (readEntry (entryIn words row) x place word)
       → TakesNoted words i (read x) v (shows found) after
@@ -132,41 +133,48 @@ module _ {words : List ℕ} {m i x : ℕ} (ready : JudgeReady words m i (read x)
   }
 
 module _ {words : List ℕ} {m i : ℕ} (ready : JudgeReady words m i try) where
-  -- A try with a stale read ends the transaction,
-  pub takes-overtaken : isStale words i ≡ true → (v : ℕ) {after : List ℕ}
-      → {row : ℕ} → row ≡ handlerRow i → after ≡ withEntry words row (emptyEntry 0) → TakesNoted words i try v (aborted overtaken) after
-  unfolding noteOutcome
-  takes-overtaken t v there left =
-      let said : answerOf words i try ≡ aborted overtaken = try-asked (ready .ledger) (ready .handler) ∙ rw t in
-      record { replied = sym said; left = in-row words i (λ _. emptyEntry 0) there left ∙ rw said }
+  -- A try with a stale read is answered abort 2,
+  answer-overtaken : (z : ℕ) → staleCell words i ≡ some z → answerOf words i try ≡ aborted (overtaken z)
+  unfolding orAborted firstHit
+  answer-overtaken z t = try-asked (ready .ledger) (ready .handler) ∙ rw t
 
-  -- and one without commits.
-  pub takes-commit : isStale words i ≡ false → (v : ℕ) {after : List ℕ} → after ≡ noteCommitRow words i → TakesNoted words i try v committed after
+  -- and one without commit.
+  answer-commit : staleCell words i ≡ none → answerOf words i try ≡ committed
+  unfolding orAborted firstHit
+  answer-commit t = try-asked (ready .ledger) (ready .handler) ∙ rw t
+
+  -- The one ends the transaction,
+  pub takes-overtaken : (z : ℕ) → staleCell words i ≡ some z → (v : ℕ) {after : List ℕ}
+      → {row : ℕ} → row ≡ handlerRow i → after ≡ withEntry words row (emptyEntry 0) → TakesNoted words i try v (aborted (overtaken z)) after
   unfolding noteOutcome
-  takes-commit t v left =
-      let said : answerOf words i try ≡ committed = try-asked (ready .ledger) (ready .handler) ∙ rw t in
-      record { replied = sym said; left = left ∙ rw said }
+  takes-overtaken z t v there left =
+      record { replied = sym (answer-overtaken z t); left = in-row words i (λ _. emptyEntry 0) there left ∙ rw (answer-overtaken z t) }
+
+  -- and the other commits.
+  pub takes-commit : staleCell words i ≡ none → (v : ℕ) {after : List ℕ} → after ≡ noteCommitRow words i → TakesNoted words i try v committed after
+  unfolding noteOutcome
+  takes-commit t v left = record { replied = sym (answer-commit t); left = left ∙ rw (answer-commit t) }
 
   -- If there is room for what a try comes to, there is room for its commit.
-  pub commit-room : HasRoom words i try → isStale words i ≡ false → commitsNoted words < mostCommits
-  commit-room room t = room (ap isCommit (try-asked (ready .ledger) (ready .handler)) ∙ rw t)
+  pub commit-room : HasRoom words i try → staleCell words i ≡ none → commitsNoted words < mostCommits
+  commit-room room t = room (ap isCommit (answer-commit t))
 
 -- ── What was asked ────────────────────────────────────────────────────
 
-module _ {words : List ℕ} {m i : ℕ} {s : Step} (ready : JudgeReady words m i s) {told : Bool} where
+module _ {words : List ℕ} {m i : ℕ} {s : Step} (ready : JudgeReady words m i s) {told : Option ℕ} where
   -- What was found stale of m cells is what the words' cells say,
   pub stale-told : {row : ℕ} → row ≡ handlerRow i
-      → told ≡ someBelow m (stale (commitsIn m words (commitsNoted words)) (deedsOf (entryIn words row) m))
-      → isStale words i ≡ told
-  stale-told there e = sym (e ∙ ap₂ (λ cells row. someBelow cells (stale (commitsIn cells words (commitsNoted words))
+      → told ≡ lowest m (stale (commitsIn m words (commitsNoted words)) (deedsOf (entryIn words row) m))
+      → staleCell words i ≡ told
+  stale-told there e = sym (e ∙ ap₂ (λ cells row. lowest cells (stale (commitsIn cells words (commitsNoted words))
       (deedsOf (entryIn words row) cells))) (ready .cells) there)
 
   -- and so is what was found torn.
   pub torn-told : (x : ℕ) {row place : ℕ} → row ≡ handlerRow i → place ≡ writer (commits words) x
-      → told ≡ tears m (commitsIn m words (commitsNoted words)) (deedsOf (entryIn words row) m) place → isTorn words i x ≡ told
+      → told ≡ tearsAt m (commitsIn m words (commitsNoted words)) (deedsOf (entryIn words row) m) place → tornBy words i x ≡ told
   torn-told x {place = place} there wrote e =
-      ap (tears (cellsOf words) (commits words) (deeds words i)) (sym wrote)
-      ∙ sym (e ∙ ap₂ (λ cells row. tears cells (commitsIn cells words (commitsNoted words)) (deedsOf (entryIn words row) cells) place) (ready .cells) there)
+      ap (tearsAt (cellsOf words) (commits words) (deeds words i)) (sym wrote)
+      ∙ sym (e ∙ ap₂ (λ cells row. tearsAt cells (commitsIn cells words (commitsNoted words)) (deedsOf (entryIn words row) cells) place) (ready .cells) there)
 
 -- What was found of a row that is the handler's is what the handler's row says.
 pub touched-told : (words : List ℕ) (i x : ℕ) {row : ℕ} {told : Bool} → row ≡ handlerRow i

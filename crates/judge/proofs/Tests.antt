@@ -2,19 +2,20 @@
 use Prim.Native.Nat.{ℕ, _+_, _*_, _≤_, _<_}
 use mathlib.Core.Path.{_≡_, refl, sym, ap, _∙_}
 use mathlib.Core.Bool.{Bool, true, false, not, _&&_, _||_, and-false}
-use mathlib.Core.List.{List}
+use mathlib.Core.List.{List, [], _∷_}
+use mathlib.Core.Option.{Option, none, some}
 use lib.ListN.{length, getD}
 use lib.Dec.{eqb, leb}
 use borrow.Author.Tests.{lt-leb, le-leb}
-use Rattle.rules.specs.steps.Tables.{if_then_else_}
+use Rattle.rules.specs.steps.Tables.{isFound}
 use Rattle.rules.specs.steps.Codes.{Step, begin, try, giveUp, read, write}
-use Rattle.rules.specs.steps.Replies.{overtaken, committed, aborted}
-use Rattle.rules.specs.steps.Checks.{inRange, firstHit}
+use Rattle.rules.specs.steps.Replies.{overtaken, committed}
+use Rattle.rules.specs.steps.Checks.{_naming_, inRange, firstHit}
 use Rattle.rules.specs.steps.Register.{Setting}
 use Rattle.rules.specs.history.History.{Deed, Commit, hasRead, hasWritten, writer}
-use Rattle.rules.specs.history.Past.{tears}
+use Rattle.rules.specs.history.Past.{tearsAt}
 use Rattle.rules.specs.demand.Judge.{orAborted, answerRead, answer}
-use Rattle.rules.proofs.steps.Tables.{by}
+use Rattle.rules.proofs.steps.Tables.{by, found}
 use Rattle.layout.specs.Places.{cellsOf, handlersOf, rowStart}
 use Rattle.layout.specs.View.{wordSetting}
 use Rattle.layout.proofs.Rows.{below-beyond}
@@ -23,7 +24,7 @@ use Rattle.ledger.specs.Histories.{isOpen, historyIn}
 use Rattle.ledger.specs.Promises.{isCommit}
 use Rattle.ledger.proofs.Faithful.{opened-is}
 use Rattle.judge.specs.Taking.{answerOf}
-use Rattle.judge.proofs.Answers.{isStale, try-asked}
+use Rattle.judge.proofs.Answers.{staleCell, try-asked}
 
 -- ── A ledger ──────────────────────────────────────────────────────────
 
@@ -65,7 +66,7 @@ read-no-commit : (S : Setting ℕ) (commits : List (Commit ℕ)) (deeds : List (
     → isCommit (answerRead S commits deeds x) ≡ false
 unfolding answerRead firstHit orAborted
 read-no-commit S commits deeds x = by (hasRead deeds x || hasWritten deeds x) (λ e. rw e)
-    (λ e. rw e (by (tears (S .cellCount) commits deeds (writer commits x)) (λ t. rw t) (λ t. rw t)))
+    (λ e. rw e (found (tearsAt (S .cellCount) commits deeds (writer commits x)) (λ y t. rw t) (λ t. rw t)))
 
 module _ (words : List ℕ) (i : ℕ) where
   -- The step would be one commit more than can be noted.
@@ -101,10 +102,10 @@ module _ (words : List ℕ) (i : ℕ) where
   read-passes x = passes (read x) (read-no-commit (wordSetting (cellsOf words)) (historyIn words .commits) (historyIn words .now i) x)
 
   -- without room a try is, unless a read is stale.
-  pub try-too-many : {told : Bool} → Ledger words → i < handlersOf words → mostCommits ≤ commitsNoted words → isStale words i ≡ told
-      → not told ≡ tooMany try
+  pub try-too-many : {told : Option ℕ} → Ledger words → i < handlersOf words → mostCommits ≤ commitsNoted words → staleCell words i ≡ told
+      → not (isFound told) ≡ tooMany try
   try-too-many {told} ledger seat full said = rw (try-asked ledger seat, said, le-leb mostCommits (commitsNoted words) full) (commits-unless told)
     where
-      commits-unless : (told : Bool) → not told ≡ isCommit (if told then (aborted overtaken) else committed)
-      commits-unless true = refl
-      commits-unless false = refl
+      commits-unless : (told : Option ℕ) → not (isFound told) ≡ isCommit (orAborted (firstHit ((overtaken naming told) ∷ [])) committed)
+      commits-unless (some z) = unfold orAborted firstHit in refl
+      commits-unless none = unfold orAborted firstHit in refl

@@ -1,14 +1,17 @@
 // What the judge looks at before a step: whether the words are a ledger, whether a handler is open, whether there is room.
 ghost use mathlib.Core.Path.{_≡_};
-ghost use mathlib.Core.Bool.{_&&_};
+ghost use mathlib.Core.Bool.{not, _&&_};
 ghost use lib.Dec.{leb};
+ghost use Rattle.rules.specs.steps.Tables.{isFound};
 ghost use Rattle.rules.specs.steps.Codes.{Step, known};
 ghost use Rattle.ledger.specs.Entries.{Ledger, isLedger, commitsNoted, mostCommits};
 ghost use Rattle.ledger.specs.Histories.{historyIn};
 ghost use Rattle.ledger.specs.Promises.{isCommit};
 ghost use Rattle.checks.specs.Meaning.{kindIs};
+ghost use Rattle.words.specs.Sets.{foundIs};
 ghost use Rattle.judge.specs.Taking.{JudgeReady, answerOf};
 use checks::Kind;
+use words::Found;
 
 // Whether the words are a ledger.
 pub fn is_ledger(words: &[u32]) -> bool
@@ -36,6 +39,16 @@ pub fn is_open(words: &[u32], handler: u32) -> bool
     words[at] != 0
 }
 
+// Whether a search among the cells found none.
+fn is_nothing(found: Found) -> bool
+    ensures { λ r. ⌜ r ≡ not (isFound (foundIs found)) ⌝ }
+{
+    match found {
+        Found::Nothing => true,
+        Found::Cell(_) => false,
+    }
+}
+
 // Whether a step that no check refuses would be one commit more than are noted.
 pub fn is_too_many(words: &[u32], m: usize, i: usize, kind: Kind) -> bool
     requires { ⌜ ((s : Step) × (kindIs kind ≡ known s) × JudgeReady (now words) m i s) ⌝ }
@@ -47,7 +60,7 @@ pub fn is_too_many(words: &[u32], m: usize, i: usize, kind: Kind) -> bool
         return false;
     }
     match kind {
-        Kind::Try => !answers::is_stale(words, m, places::handler_row(i), count),
+        Kind::Try => is_nothing(answers::overtaken_cell(words, m, places::handler_row(i), count)),
         Kind::Begin => false,
         Kind::GiveUp => false,
         Kind::Read(_) => false,

@@ -15,6 +15,7 @@ use replies::Outcome;
 use replies::Reason;
 use replies::Refusal;
 use replies::Report;
+use words::Found;
 
 // The word that is noted of what a read showed.
 fn noted_word(content: Content) -> u32
@@ -37,9 +38,9 @@ fn read(words: &mut [u32], m: usize, i: usize, x: usize) -> Outcome
     }
     let count = words[places::COMMITS_NOTED] as usize;
     let place = answers::writer_of(words, x, count);
-    if answers::tears(words, m, row, count, place) {
+    if let Found::Cell(y) = answers::torn_cell(words, m, row, count, place) {
         noting::empty_row(words, row, 0);
-        return Outcome::Aborted(Reason::Torn);
+        return Outcome::Aborted(Reason::Torn(y));
     }
     let content = answers::present_content(words, x, count);
     noting::note_read(words, row, x, place, noted_word(content));
@@ -52,9 +53,10 @@ fn attempt(words: &mut [u32], m: usize, i: usize) -> Outcome
     ensures { λ r. ⌜ ((v : ℕ) → TakesNoted (now (words .entry)) i try v (outcomeIs r) (now (words .exit))) ⌝ }
 {
     let row = places::handler_row(i);
-    if answers::is_stale(words, m, row, words[places::COMMITS_NOTED] as usize) {
+    let count = words[places::COMMITS_NOTED] as usize;
+    if let Found::Cell(z) = answers::overtaken_cell(words, m, row, count) {
         noting::empty_row(words, row, 0);
-        return Outcome::Aborted(Reason::Overtaken);
+        return Outcome::Aborted(Reason::Overtaken(z));
     }
     noting::note_commit(words, i);
     Outcome::Committed

@@ -1,4 +1,4 @@
--- What an entry's deeds are, cell by cell: which reads pass a test, what was written, what the copies show, and what is left on a table.
+-- What an entry's deeds are, cell by cell: which cells are read, which reads pass a test, what was written, what the copies show, and what is left on a table.
 use Prim.Native.Nat.{ℕ, zero, suc, _-_, _<_}
 use native.Mathlib.Omega.{arith}
 use native.Mathlib.Numerals.{sub-one}
@@ -15,6 +15,7 @@ use Rattle.rules.specs.history.Replay.{after}
 use Rattle.rules.specs.demand.Judge.{copied}
 use Rattle.rules.proofs.steps.Tables.{by, same-test}
 use Rattle.rules.proofs.steps.Searches.{some-only, some-next}
+use Rattle.rules.proofs.history.Deeds.{EachRead, each-none, each-look, each-set}
 use Rattle.ledger.specs.Entries.{Entry}
 use Rattle.ledger.specs.Histories.{lookOf, setOf, deedsOf}
 
@@ -31,16 +32,6 @@ hasSource (suc source) = true
 -- What a noted copy shows: what was written, or else the version read, whose source is one below what is noted.
 unfoldable pub copyShows : Bool → ℕ → ℕ → Content ℕ
 copyShows isWritten noted v = if isWritten then (value v) else (versionShows (noted - 1) v)
-
--- The opening's version shows nothing,
-pub shows-nothing : (number v : ℕ) → number ≡ 0 → versionShows number v ≡ unset
-unfolding versionShows
-shows-nothing number v e = rw (eq-eqb number 0 e)
-
--- and every other its value.
-pub shows-value : (number v : ℕ) → (number ≡ 0 → ⊥) → versionShows number v ≡ value v
-unfolding versionShows
-shows-value number v ne = rw (ne-eqb number 0 ne)
 
 -- Where no source is noted, nothing is shown anyway.
 source-shows : (noted v : ℕ) → (if hasSource noted || false then (versionShows (noted - 1) v) else unset) ≡ versionShows (noted - 1) v
@@ -110,6 +101,15 @@ leaves-next table true (suc source) c v deeds y = by (eqb y c) (λ e. rw e) (λ 
 leaves-next table false zero c v deeds y = by (eqb y c) (λ e. rw e) (λ e. rw e)
 leaves-next table false (suc source) c v deeds y = by (eqb y c) (λ e. rw e) (λ e. rw e)
 
+-- What holds of each read, and of every one of c, holds of each read with c's noted.
+reads-next : {Q : ℕ → ℕ → Content ℕ → Type 0} (isWritten : Bool) (source c v : ℕ) (deeds : List (Deed ℕ))
+    → ((k : ℕ) (shown : Content ℕ) → Q c k shown) → EachRead Q deeds → EachRead Q (cellDeeds isWritten source c v deeds)
+unfolding setOf lookOf
+reads-next true zero c v deeds here each = each-set c v deeds each
+reads-next true (suc source) c v deeds here each = each-set c v _ (each-look c source _ deeds (here source _) each)
+reads-next false zero c v deeds here each = each
+reads-next false (suc source) c v deeds here each = each-look c source _ deeds (here source _) each
+
 -- ── The read of one cell ──────────────────────────────────────────────
 
 -- A test of one cell fails of another,
@@ -144,6 +144,13 @@ source-noted noted some = sym (passes-all 0 noted) ∙ passes-noted (λ x k. tru
 -- ── All cells ─────────────────────────────────────────────────────────
 
 module _ (e : Entry) where
+  -- None but cells below m were read from the cells.
+  pub reads-below : (m : ℕ) → EachRead (λ y source v. y < m) (deedsOf e m)
+  unfolding deedsOf
+  reads-below zero = each-none _
+  reads-below (suc c) = reads-next (e .written c) (e .sources c) c (e .copies c) (deedsOf e c) (λ k shown. omega arith)
+      (λ y source v sooner stands. omega (arith, reads-below c y source v sooner stands))
+
   -- Some read from the cells passes a test just where a noted one does.
   pub looks-at : (test : ℕ → ℕ → Bool) (m : ℕ) → someLook test (deedsOf e m) ≡ someBelow m (λ c. lookPasses test c (e .sources c))
   unfolding deedsOf

@@ -1,38 +1,43 @@
--- The judge gives each refusal exactly when its condition holds, and then no word is changed. It never answers abort 3, and with 64
--- commits noted it still answers all that is no commit.
+-- The judge gives each refusal exactly when its condition holds, and then no word is changed. It gives aborts 1 and 2, each with its cell,
+-- exactly when the history says so, and never abort 3; with 64 commits noted it still answers all that is no commit.
 use Prim.Native.Nat.{ℕ, _<_}
 use native.Mathlib.Omega.{arith}
 use mathlib.Core.Path.{_≡_, refl, sym, ap, _∙_}
 use mathlib.Core.Bool.{true, false, _&&_}
 use mathlib.Core.List.{List}
-use mathlib.Core.Logic.{_↔_, _⊎_, inl, inr}
+use mathlib.Core.Logic.{_↔_, Iff·trans, _⊎_, inl, inr}
 use lib.Dec.{leb}
 use lib.ListN.{length}
 use borrow.Author.Tests.{leb-true}
 use Rattle.rules.specs.steps.Codes.{plainSheet}
-use Rattle.rules.specs.steps.Replies.{overtaken, spent, Outcome, committed, aborted, Report, Reply, reported, Opening}
+use Rattle.rules.specs.steps.Replies.{Reason, torn, overtaken, spent, Outcome, committed, aborted, Report, Reply, reported, Opening}
 use Rattle.rules.specs.steps.Replies.{Refusal, notWellFormed, tooManyCommits}
+use Rattle.rules.specs.steps.Register.{Setting}
 use Rattle.rules.specs.steps.Checks.{Asked}
 use Rattle.rules.specs.steps.Given.{OpeningGiven}
+use Rattle.rules.specs.history.History.{History}
 use Rattle.rules.specs.demand.Demand.{reportedTo}
 use Rattle.rules.specs.demand.Judge.{askedByHistory}
 use Rattle.rules.proofs.steps.Tables.{by, and-left, and-right, both-ways}
 use Rattle.rules.proofs.steps.Given.{Verdict, verdict}
 use Rattle.rules.proofs.steps.Turns.{refused-exactly}
+use Rattle.rules.proofs.history.Deeds.{EachRead}
 use Rattle.rules.proofs.demand.Judged.{judged-refused, judged-free}
 use Rattle.rules.proofs.steps.Properties.{ok-no-abort}
-use Rattle.rules.proofs.demand.ExactAborts.{outcomeIn}
+use Rattle.rules.proofs.demand.ExactAborts.{outcomeIn, torn-told, overtaken-told}
 use Rattle.rules.proofs.demand.NeverSpent.{never-spent}
 use Rattle.layout.specs.Places.{cellsOf, handlersOf}
 use Rattle.layout.specs.View.{wordSetting}
 use Rattle.promises.proofs.Exactly.{opening-said, opening-given}
-use Rattle.ledger.specs.Entries.{ledgerLong, mostCommits, commitsNoted, Ledger, isLedger}
+use Rattle.ledger.specs.Entries.{ledgerLong, mostCommits, commitsNoted, handlerRow, Ledger, isLedger, entryIn}
 use Rattle.ledger.specs.Histories.{historyIn}
 use Rattle.ledger.specs.Noting.{noteWords}
-use Rattle.ledger.specs.Promises.{ledgerRefusal, ledgerWords, LedgerPromise, isCommit, limited, judgedReply, JudgedPromise}
-use Rattle.ledger.specs.Given.{toldBy, JudgeGiven, noLedger, byRules, noRoom}
+use Rattle.ledger.specs.Promises.{ledgerRefusal, ledgerWords, LedgerPromise, isCommit, reportsCommit, limited, judgedReply, JudgedPromise}
+use Rattle.ledger.specs.Given.{toldBy, JudgeGiven, noLedger, byRules, noRoom, JudgeAborts}
 use Rattle.ledger.proofs.Tested.{tested}
+use Rattle.ledger.proofs.Deeds.{reads-below}
 use Rattle.ledger.proofs.Commits.{commits-count}
+use Rattle.ledger.proofs.Faithful.{now-is}
 use Rattle.ledger.proofs.Steps.{limited-other, refusal-unnoted, reply-limited, reply-cases}
 
 -- ── Opening ───────────────────────────────────────────────────────────
@@ -118,14 +123,14 @@ short-history : (words : List ℕ) → Ledger words → length (historyIn words 
 unfolding historyIn
 short-history words ledger = omega (arith, ledger .few, commits-count (cellsOf words) words (commitsNoted words))
 
--- No reply of the judge is abort 3.
-pub never-three : (words : List ℕ) (i code : ℕ) → judgedReply words i code ≡ reportedTo i code (aborted spent) → ⊥
-never-three words i code e = by (isLedger words)
+-- No reply of the judge is abort 3, whatever the cell.
+pub never-three : (words : List ℕ) (i code y : ℕ) → judgedReply words i code ≡ reportedTo i code (aborted (spent y)) → ⊥
+never-three words i code y e = by (isLedger words)
     (λ t. let ledger = tested words .0 t in
-    reply-cases ledger i code (λ reply. outcomeIn reply ≡ aborted spent → ⊥) (λ refusal. ok-no-abort spent)
-    (λ s free room. never-spent (wordSetting (cellsOf words)) (historyIn words) i s (short-history words ledger)) (ap outcomeIn e))
+    reply-cases ledger i code (λ reply. outcomeIn reply ≡ aborted (spent y) → ⊥) (λ refusal. ok-no-abort (spent y))
+    (λ s free room. never-spent y (wordSetting (cellsOf words)) (historyIn words) i s (short-history words ledger)) (ap outcomeIn e))
     (λ t. let refused = given-refuses words i code notWellFormed (noLedger (λ ledger. both-ways (tested words .1 ledger) t)) in
-    ok-no-abort spent (ap outcomeIn (sym refused ∙ e)))
+    ok-no-abort (spent y) (ap outcomeIn (sym refused ∙ e)))
 
 module _ {words : List ℕ} (ledger : Ledger words) (i code : ℕ) where
   -- An outcome that is no commit is the judge's reply where the history tells it, however many commits are noted.
@@ -135,7 +140,41 @@ module _ {words : List ℕ} (ledger : Ledger words) (i code : ℕ) where
       reply-limited ledger i code ∙ ap (limited (commitsNoted words)) told
       ∙ limited-other (commitsNoted words) (reportedTo i code outcome) other
 
-  -- So a try that is overtaken is answered abort 2 also where 64 are.
-  pub too-many-only-then : toldBy words i code ≡ reportedTo i code (aborted overtaken)
-      → judgedReply words i code ≡ reportedTo i code (aborted overtaken)
-  too-many-only-then = others-answered (aborted overtaken) refl
+  -- So a try that is overtaken is answered abort 2 and its cell also where 64 are,
+  pub too-many-only-then : (y : ℕ) → toldBy words i code ≡ reportedTo i code (aborted (overtaken y))
+      → judgedReply words i code ≡ reportedTo i code (aborted (overtaken y))
+  too-many-only-then y = others-answered (aborted (overtaken y)) refl
+
+  -- and each abort is the reply exactly where the history tells it.
+  abort-exactly : (reason : Reason) → (judgedReply words i code ≡ reportedTo i code (aborted reason))
+      ↔ (toldBy words i code ≡ reportedTo i code (aborted reason))
+  unfolding limited
+  abort-exactly reason = (to, others-answered (aborted reason) refl)
+    where
+      to : judgedReply words i code ≡ reportedTo i code (aborted reason) → toldBy words i code ≡ reportedTo i code (aborted reason)
+      to e = by (leb mostCommits (commitsNoted words) && reportsCommit (toldBy words i code))
+          (λ full. let refused : judgedReply words i code ≡ Reply.refused tooManyCommits = reply-limited ledger i code ∙ rw full in
+          absurd (ok-no-abort reason (ap outcomeIn (sym refused ∙ e))))
+          (λ room. let same : judgedReply words i code ≡ toldBy words i code = reply-limited ledger i code ∙ rw room in sym same ∙ e)
+
+-- Each abort of a ledger that names a cell is given exactly then.
+pub judge-aborts : {words : List ℕ} → Ledger words → JudgeAborts words
+judge-aborts {words} ledger = record {
+  tornExactly = λ i code x y first. Iff·trans (abort-exactly ledger i code (torn y))
+      (torn-told S n h i code (inside i (first .handler)) x y first);
+  overtakenExactly = λ i code y seat asks isOpen. Iff·trans (abort-exactly ledger i code (overtaken y))
+      (overtaken-told S n h i code (inside i seat) seat asks isOpen y);
+  neverSpent = never-three words;
+}
+  where
+    S : Setting ℕ
+    S = wordSetting (cellsOf words)
+
+    n : ℕ
+    n = handlersOf words
+
+    h : History ℕ
+    h = historyIn words
+
+    inside : (i : ℕ) → i < n → EachRead (λ y source v. y < cellsOf words) (h .now i)
+    inside i seat = rw (now-is ledger seat) (reads-below (entryIn words (handlerRow i)) (cellsOf words))

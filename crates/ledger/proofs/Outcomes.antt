@@ -14,10 +14,10 @@ use Rattle.rules.specs.steps.Given.{Within, phaseFor}
 use Rattle.rules.specs.history.History.{Deed, look, again, set, Commit, History, someLook, hasRead, hasWritten, writer}
 use Rattle.rules.specs.history.History.{everyCommit, doing, readDeed, note, noteOk, noteShown, ended}
 use Rattle.rules.specs.history.History as Rules
-use Rattle.rules.specs.history.Past.{tears}
+use Rattle.rules.specs.history.Past.{tearsAt}
 use Rattle.rules.specs.history.Replay.{after, replay}
 use Rattle.rules.specs.demand.Judge.{copied, orAborted, answerRead, answer}
-use Rattle.rules.proofs.steps.Tables.{by, both-ways, put-each, put-same, or-left, or-right}
+use Rattle.rules.proofs.steps.Tables.{by, both-ways, found, put-each, put-same, or-left, or-right}
 use Rattle.rules.proofs.steps.Properties.{shows-no-abort}
 use Rattle.rules.proofs.history.Alike.{SameDeeds, SameHistory, deeds-refl, commits-refl, history-refl}
 use Rattle.layout.specs.Places.{cellsOf, handlersOf}
@@ -48,8 +48,8 @@ source-none (suc source) e = both-ways refl e
 first-shows : (S : Setting ℕ) (commits : List (Commit ℕ)) (deeds : List (Deed ℕ)) (x : ℕ) {content : Content ℕ}
     → hasRead deeds x || hasWritten deeds x ≡ false → shows content ≡ answerRead S commits deeds x → content ≡ replay commits everyCommit x
 unfolding answerRead firstHit orAborted
-first-shows S commits deeds x {content} first told = by (tears (S .cellCount) commits deeds (writer commits x))
-    (λ t. absurd (shows-no-abort content torn (told ∙ rw (first, t))))
+first-shows S commits deeds x {content} first told = found (tearsAt (S .cellCount) commits deeds (writer commits x))
+    (λ y t. absurd (shows-no-abort content (torn y) (told ∙ rw (first, t))))
     (λ t. let same : shows content ≡ shows (replay commits everyCommit x) = told ∙ rw (first, t) in cc)
 
 -- What a version shows is told by the word noted of it, and its source.
@@ -129,15 +129,15 @@ module _ {words : List ℕ} (ledger : Ledger words) {i : ℕ} (seat : i < handle
     unfolding noteRead readDeed
     read-is-noted x content inside told = by (hasRead (h .now i) x || hasWritten (h .now i) x)
         (λ e. rw e (repeat-is-noted x content))
-        (λ e. rw e (subst (λ shown. SameHistory (doing h i (look x (writer (h .commits) x) shown ∷ h .now i)) noted) (found e)
+        (λ e. rw e (subst (λ shown. SameHistory (doing h i (look x (writer (h .commits) x) shown ∷ h .now i)) noted) (present e)
         (first-is-noted x (writer (h .commits) x) (contentWord content) inside (or-left (hasRead (h .now i) x) (hasWritten (h .now i) x) e)
         (or-right (hasRead (h .now i) x) (hasWritten (h .now i) x) e))))
       where
         noted : History ℕ
         noted = historyIn (withEntry words (handlerRow i) (readEntry entry x (writer (h .commits) x) (contentWord content)))
 
-        found : hasRead (h .now i) x || hasWritten (h .now i) x ≡ false → versionShows (writer (h .commits) x) (contentWord content) ≡ content
-        found first = word-shows (writer (h .commits) x) _ (first-shows S (h .commits) (h .now i) x first told ∙ present-said x inside)
+        present : hasRead (h .now i) x || hasWritten (h .now i) x ≡ false → versionShows (writer (h .commits) x) (contentWord content) ≡ content
+        present first = word-shows (writer (h .commits) x) _ (first-shows S (h .commits) (h .now i) x first told ∙ present-said x inside)
 
   -- An entry put in for the handler keeps the words a ledger.
   entry-put : (e : Entry) → Keeps words (withEntry words (handlerRow i) e)

@@ -17,10 +17,11 @@ use Rattle.rules.specs.history.Replay.{replay}
 use Rattle.rules.specs.demand.Judge.{versionCount}
 use Rattle.rules.proofs.steps.Tables.{by}
 use Rattle.rules.proofs.steps.Searches.{some-next}
+use Rattle.rules.proofs.steps.Steps.{shows-nothing, shows-value}
 use Rattle.rules.proofs.history.Versions.{writer-new, writer-old, count-new, count-old}
 use Rattle.ledger.specs.Entries.{commitRow, Entry, entryIn}
 use Rattle.ledger.specs.Histories.{commitsIn}
-use Rattle.ledger.proofs.Deeds.{shows-nothing, shows-value, written-at, leaves-at}
+use Rattle.ledger.proofs.Deeds.{written-at, leaves-at}
 use Rattle.ledger.proofs.Commits.{commitAfter, commits-count}
 
 -- The entry of the commit at a place.

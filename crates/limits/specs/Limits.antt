@@ -41,6 +41,6 @@ sheetColumns = 6
 abbrev pub stepWidth : ℕ
 stepWidth = 3
 
--- The words of a step's report: handler, code, kind of reply, and its value or number.
+-- The words of a step's report: handler, code, kind of reply, its value or number, and the cell that it names.
 abbrev pub reportWidth : ℕ
-reportWidth = 4
+reportWidth = 5

@@ -65,8 +65,8 @@ pub const SHEET_FULL: u32 = 4_294_000_000u32;
 // The words of a step in a row: handler, code and value.
 pub const STEP_WIDTH: usize = 3;
 
-// The words of a step's report: handler, code, kind of reply, and its value or number.
-pub const REPORT_WIDTH: usize = 4;
+// The words of a step's report: handler, code, kind of reply, its value or number, and the cell that it names.
+pub const REPORT_WIDTH: usize = 5;
 
 // Whether m is 1 to 32 and n is 1 to 16.
 pub fn in_range(m: u32, n: u32) -> bool

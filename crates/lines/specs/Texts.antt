@@ -2,7 +2,8 @@
 use Prim.Native.Nat.{ℕ, zero, suc}
 use mathlib.Core.List.{List, [], _∷_, _++_}
 use mathlib.Core.Option.{Option, none, some}
-use Rattle.rules.specs.steps.Replies.{Content, unset, value, Outcome, ok, shows, committed, aborted, Refusal, Reply, reported, reasonNumber, refusalNumber}
+use Rattle.rules.specs.steps.Replies.{Reason, Content, unset, value, Outcome, ok, shows, committed, aborted, Refusal, Reply, reported}
+use Rattle.rules.specs.steps.Replies.{reasonNumber, reasonCell, refusalNumber}
 use Rattle.replies.specs.Ends.{CellLine}
 use Rattle.text.specs.Bytes.{ascii, decimal}
 use Rattle.lines.specs.Lines.{Line}
@@ -16,12 +17,21 @@ abbrev pub contentText : Content ℕ → List ℕ
 contentText unset = ascii "unset"
 contentText (value v) = ascii "value " ++ decimal v
 
--- What a step came to: `ok`, what a read shows, `commit` or `abort R`.
+-- The cell that an abort names: ` cell C`, and nothing where it names none.
+abbrev pub namedText : Option ℕ → List ℕ
+namedText none = []
+namedText (some y) = ascii " cell " ++ decimal y
+
+-- An abort: `abort R cell C`, or `abort R` where it names no cell.
+abbrev pub abortText : Reason → List ℕ
+abortText reason = ascii "abort " ++ decimal (reasonNumber reason) ++ namedText (reasonCell reason)
+
+-- What a step came to: `ok`, what a read shows, `commit`, or an abort.
 abbrev pub outcomeText : Outcome ℕ → List ℕ
 outcomeText ok = ascii "ok"
 outcomeText (shows content) = contentText content
 outcomeText committed = ascii "commit"
-outcomeText (aborted reason) = ascii "abort " ++ decimal (reasonNumber reason)
+outcomeText (aborted reason) = abortText reason
 
 -- A refusal: `refused N`.
 abbrev pub refusalText : Refusal → List ℕ

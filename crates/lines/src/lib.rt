@@ -2,15 +2,18 @@
 // Internal: called by our crates alone, which show what each function requires. A place's line fits in `limits::LONGEST_LINE` bytes.
 ghost use Prim.Native.Nat.{_+_, _*_, _≤_};
 ghost use Rattle.limits.specs.Limits.{mostFileBytes, longestLine};
-ghost use Rattle.replies.specs.Meaning.{contentIs, outcomeIs, refusalIs, replyIs};
+ghost use mathlib.Core.Option.{some};
+ghost use Rattle.rules.specs.steps.Replies.{reasonCell};
+ghost use Rattle.replies.specs.Meaning.{reasonIs, contentIs, outcomeIs, refusalIs, replyIs};
 ghost use Rattle.replies.specs.Ends.{endIs};
 ghost use Rattle.text.specs.Lies.{Puts, farthest};
 ghost use Rattle.lines.specs.Lines.{lineIs};
-ghost use Rattle.lines.specs.Texts.{frontText, contentText, outcomeText, refusalText, replyText, placeText, headerText, endText, refusedText};
+ghost use Rattle.lines.specs.Texts.{frontText, contentText, namedText, abortText, outcomeText, refusalText, replyText, placeText, headerText, endText, refusedText};
 use replies::Answer;
 use replies::Content;
 use replies::End;
 use replies::Outcome;
+use replies::Reason;
 use replies::Refusal;
 use text::put_number;
 use text::put_text;
@@ -54,6 +57,41 @@ fn put_content(buffer: &mut [u8], at: usize, content: Content) -> usize
     }
 }
 
+// Puts the cell that an abort names.
+fn put_named(buffer: &mut [u8], at: usize, cell: u8) -> usize
+    requires { ⌜ at ≤ farthest + 96 ⌝ }
+    ensures { λ r. ⌜ Puts (namedText (some cell)) at r (now (buffer .entry)) (now (buffer .exit)) ⌝ }
+    ensures { λ r. ⌜ r ≤ at + 9 ⌝ }
+{
+    let named = put_text(buffer, at, b" cell ");
+    put_number(buffer, named, cell as u32)
+}
+
+// Puts the cell that a reason names, if it names one.
+fn put_cell_of(buffer: &mut [u8], at: usize, reason: Reason) -> usize
+    requires { ⌜ at ≤ farthest + 96 ⌝ }
+    ensures { λ r. ⌜ Puts (namedText (reasonCell (reasonIs reason))) at r (now (buffer .entry)) (now (buffer .exit)) ⌝ }
+    ensures { λ r. ⌜ r ≤ at + 9 ⌝ }
+{
+    match reason {
+        Reason::Torn(y) => put_named(buffer, at, y),
+        Reason::Overtaken(z) => put_named(buffer, at, z),
+        Reason::Spent(z) => put_named(buffer, at, z),
+        Reason::GaveUp => at,
+    }
+}
+
+// Puts an abort: its number, and the cell that it names.
+fn put_abort(buffer: &mut [u8], at: usize, reason: Reason) -> usize
+    requires { ⌜ at ≤ farthest + 64 ⌝ }
+    ensures { λ r. ⌜ Puts (abortText (reasonIs reason)) at r (now (buffer .entry)) (now (buffer .exit)) ⌝ }
+    ensures { λ r. ⌜ r ≤ at + 18 ⌝ }
+{
+    let named = put_text(buffer, at, b"abort ");
+    let numbered = put_number(buffer, named, replies::reason_number(reason));
+    put_cell_of(buffer, numbered, reason)
+}
+
 // Puts what a step came to.
 fn put_outcome(buffer: &mut [u8], at: usize, outcome: Outcome) -> usize
     requires { ⌜ at ≤ farthest + 64 ⌝ }
@@ -64,10 +102,7 @@ fn put_outcome(buffer: &mut [u8], at: usize, outcome: Outcome) -> usize
         Outcome::Done => put_text(buffer, at, b"ok"),
         Outcome::Shows(content) => put_content(buffer, at, content),
         Outcome::Committed => put_text(buffer, at, b"commit"),
-        Outcome::Aborted(reason) => {
-            let named = put_text(buffer, at, b"abort ");
-            put_number(buffer, named, replies::reason_number(reason))
-        }
+        Outcome::Aborted(reason) => put_abort(buffer, at, reason),
     }
 }
 

@@ -28,6 +28,7 @@ pub use ledger::handler_row;
 pub use ledger::row_at;
 pub use ledger::source_at;
 pub use ledger::written_at;
+pub use row::REPORT_CELL;
 pub use row::REPORT_CODE;
 pub use row::REPORT_DETAIL;
 pub use row::REPORT_HANDLER;

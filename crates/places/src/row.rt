@@ -20,3 +20,6 @@ pub const REPORT_KIND: usize = 2;
 
 // In a report: the reply's value or number.
 pub const REPORT_DETAIL: usize = 3;
+
+// In a report: the cell that the reply names.
+pub const REPORT_CELL: usize = 4;

@@ -5,7 +5,7 @@ use Rattle.rules.specs.steps.Tables.{put, orElse, lowest, someBelow}
 use Rattle.rules.specs.steps.Codes.{plainSheet}
 use Rattle.rules.specs.steps.Register.{withHandler, idle, blank, fresh}
 use Rattle.rules.specs.steps.Checks.{firstHit, stepChecks, inRange}
-use Rattle.rules.specs.steps.Figure.{joined, taken, wrote, versionShows, shown, stamped, stored, begun, isTorn, isOvertaken, isSpent}
+use Rattle.rules.specs.steps.Figure.{joined, taken, wrote, versionShows, shown, stamped, stored, begun, tornCell, overtakenCell, spentCell}
 use Rattle.rules.specs.steps.Figure.{aborting, committing, unlessAborted, readChecks, tryChecks, firstRead, reading, trying, step}
 use Rattle.rules.specs.steps.Turn.{stepRefusal, turned, turn}
 use Rattle.layout.specs.WellFormed.{everyBelow}
@@ -27,7 +27,7 @@ unfolding listings published givenUp calm empty unknown unordered written
     runOf playedBy started runFrom ordered nextAsked admissionOf admitted fileRefusal fileChecks
     stepsBehind isSoundFile isSoundTable isPlaced dueAt shortAt longAt everyBelow inRange
     put orElse lowest someBelow plainSheet withHandler idle blank fresh firstHit stepChecks
-    joined taken wrote versionShows shown stamped stored begun isTorn isOvertaken isSpent aborting committing
+    joined taken wrote versionShows shown stamped stored begun tornCell overtakenCell spentCell aborting committing
     unlessAborted readChecks tryChecks firstRead reading trying step stepRefusal turned turn
 listings-printed = refl
 
@@ -38,6 +38,6 @@ unfolding listings published givenUp calm empty unknown unordered written
     runOf playedBy started runFrom ordered nextAsked admissionOf admitted fileRefusal fileChecks
     stepsBehind isSoundFile isSoundTable isPlaced dueAt shortAt longAt everyBelow inRange
     put orElse lowest someBelow plainSheet withHandler idle blank fresh firstHit stepChecks
-    joined taken wrote versionShows shown stamped stored begun isTorn isOvertaken isSpent aborting committing
+    joined taken wrote versionShows shown stamped stored begun tornCell overtakenCell spentCell aborting committing
     unlessAborted readChecks tryChecks firstRead reading trying step stepRefusal turned turn
 listings-judged = refl

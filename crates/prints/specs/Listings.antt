@@ -17,7 +17,7 @@ unfoldable pub written : List String → List ℕ
 written [] = []
 written (line ∷ lines) = ascii line ++ newline ++ written lines
 
--- The published listing, docs/RULES.md, K7: handler 0 is aborted with 1.
+-- The published listing, docs/RULES.md, K7: handler 0 is aborted with 1, by cell 0.
 unfoldable pub published : Listing
 published = record {
   file =
@@ -27,7 +27,7 @@ published = record {
       0 ∷ 0 ∷ 1 ∷ 1 ∷ 1 ∷ 1 ∷ 0 ∷ [];
   text = written (
       "handlers 2 cells 2" ∷ "0 0 0 ok" ∷ "1 0 32 unset" ∷ "2 1 0 ok" ∷ "3 1 64 ok" ∷ "4 1 65 ok" ∷ "5 1 1 commit" ∷
-      "6 0 33 abort 1" ∷ "cell 0 value 5 number 1" ∷ "cell 1 value 7 number 1" ∷ []);
+      "6 0 33 abort 1 cell 0" ∷ "cell 0 value 5 number 1" ∷ "cell 1 value 7 number 1" ∷ []);
 }
 
 -- A handler that writes 0 := 7 and gives up, and then gives up once more, idle.

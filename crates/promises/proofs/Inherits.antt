@@ -60,9 +60,10 @@ module _ {m n : ℕ} {asks : List (Ask ℕ)} {words : List ℕ} {h : History ℕ
   follows-consistent : WordsConsistent m n words h
   follows-consistent = record {
     legal = rw (contents-said m n words) (consistent .legal);
-    tornExactly = λ first p. rw (rules-reply follows p) (consistent .tornExactly _ _ _ _ first);
+    tornExactly = λ y first p. rw (rules-reply follows p) (consistent .tornExactly _ _ _ y _ first);
     replies = λ p. rules-reply follows p ∙ told .replies _ _ _;
-    overtakenExactly = λ inside asks isOpen p. rw (rules-reply follows p) (told .overtakenExactly _ _ _ inside asks isOpen);
+    overtakenExactly = λ y inside asks isOpen p. rw (rules-reply follows p) (told .overtakenExactly _ _ y _ inside asks isOpen);
+    spentExactly = λ y inside asks isOpen p. rw (rules-reply follows p) (told .spentExactly _ _ y _ inside asks isOpen);
     numbers = λ x y inside below. number-said m n words x y inside below ∙ told .numbers x y;
   }
 

@@ -27,9 +27,9 @@ use Rattle.replies.specs.Ends.{CellLine, endIs}
 -- ── Reading back ──────────────────────────────────────────────────────
 
 reasonBack : Rules.Reason → Reason
-reasonBack Rules.torn = Torn
-reasonBack Rules.overtaken = Overtaken
-reasonBack Rules.spent = Spent
+reasonBack (Rules.torn y) = Torn y
+reasonBack (Rules.overtaken z) = Overtaken z
+reasonBack (Rules.spent z) = Spent z
 reasonBack Rules.gaveUp = GaveUp
 
 contentBack : Rules.Content ℕ → Content
@@ -73,9 +73,9 @@ endBack none = Missing
 
 reason-same : (reason : Reason) → reasonBack (reasonIs reason) ≡ reason
 unfolding reasonBack
-reason-same Torn = refl
-reason-same Overtaken = refl
-reason-same Spent = refl
+reason-same (Torn y) = refl
+reason-same (Overtaken z) = refl
+reason-same (Spent z) = refl
 reason-same GaveUp = refl
 
 content-same : (content : Content) → contentBack (contentIs content) ≡ content
@@ -152,6 +152,10 @@ answer-determined = determined answers-apart
 -- Whatever is opened, its promise allows one answer, and one thing left.
 pub opened-determined : Determined openingIs
 opened-determined = determined openings-apart
+
+-- Whatever tells what a version shows, its promise allows one.
+pub content-determined : Determined contentIs
+content-determined = determined contents-apart
 
 -- Whatever shows a cell's end, its promise allows one.
 pub end-determined : Determined endIs

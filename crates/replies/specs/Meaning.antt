@@ -19,9 +19,9 @@ use Rattle.replies.specs.declared.Opened.the-variants.{Ready, Rejected}
 
 -- The rules' reason.
 abbrev pub reasonIs : Reason → Rules.Reason
-reasonIs Torn = Rules.torn
-reasonIs Overtaken = Rules.overtaken
-reasonIs Spent = Rules.spent
+reasonIs (Torn y) = Rules.torn y
+reasonIs (Overtaken z) = Rules.overtaken z
+reasonIs (Spent z) = Rules.spent z
 reasonIs GaveUp = Rules.gaveUp
 
 -- The rules' content.
@@ -64,4 +64,4 @@ openingIs (Rejected refusal) = Rules.Opening.refused (refusalIs refusal)
 
 -- The rules' numbers of an answer.
 abbrev pub numbersAre : Numbers → Rules.Numbers
-numbersAre numbers = record { kind = numbers .kind; detail = numbers .detail }
+numbersAre numbers = record { kind = numbers .kind; detail = numbers .detail; cell = numbers .cell }

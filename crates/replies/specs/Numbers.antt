@@ -2,7 +2,7 @@
 use Prim.Native.Nat.{ℕ}
 use Rattle.rules.specs.Promise.{Promise, answering}
 use Rattle.rules.specs.steps.Replies as Rules
-use Rattle.rules.specs.steps.Replies.{reasonNumber, refusalNumber, replyNumbers}
+use Rattle.rules.specs.steps.Replies.{reasonNumber, refusalNumber, outcomeNumbers, replyNumbers}
 use Rattle.rules.specs.steps.Figure.{versionShows}
 use Rattle.replies.specs.declared.Reason.{Reason}
 use Rattle.replies.specs.declared.Refusal.{Refusal}
@@ -25,6 +25,10 @@ ReasonPromise reason number = Promise (answering (λ named. reasonNumber (reason
 -- The promise of a refusal's number.
 abbrev pub RefusalPromise : Refusal → ℕ → Type 0
 RefusalPromise refusal number = Promise (answering (λ named. refusalNumber (refusalIs named))) refusal number tt
+
+-- The promise of an outcome in numbers.
+abbrev pub OutcomePromise : Rules.Outcome ℕ → Rules.Numbers → Type 0
+OutcomePromise outcome numbers = Promise (answering outcomeNumbers) outcome numbers tt
 
 -- The promise of an answer in numbers.
 abbrev pub NumbersPromise : Rules.Reply ℕ → Rules.Numbers → Type 0

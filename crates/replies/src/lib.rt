@@ -1,15 +1,16 @@
 // The replies of a register, as its callers see them: a report with an outcome with a reason, or a refusal; their numbers; and what is
 // shown of a cell at the end. PUBLIC: nothing here has a `requires`.
 ghost use mathlib.Core.Path.{_≡_};
-ghost use Rattle.rules.specs.steps.Replies.{contentNumbers, outcomeNumbers};
-ghost use Rattle.replies.specs.Meaning.{contentIs, outcomeIs, replyIs, numbersAre};
-ghost use Rattle.replies.specs.Numbers.{VersionPromise, ReasonPromise, RefusalPromise, NumbersPromise};
+ghost use Rattle.rules.specs.steps.Tables.{placeOf};
+ghost use Rattle.rules.specs.steps.Replies.{reasonCell, contentNumbers};
+ghost use Rattle.replies.specs.Meaning.{reasonIs, contentIs, outcomeIs, replyIs, numbersAre};
+ghost use Rattle.replies.specs.Numbers.{VersionPromise, ReasonPromise, RefusalPromise, OutcomePromise, NumbersPromise};
 
-// Why a transaction was aborted.
+// Why a transaction was aborted, and by which cell: the lowest that meets the condition.
 pub enum Reason {
-    Torn,
-    Overtaken,
-    Spent,
+    Torn(u8),
+    Overtaken(u8),
+    Spent(u8),
     GaveUp,
 }
 
@@ -64,10 +65,12 @@ pub enum Opened {
     Rejected(Refusal),
 }
 
-// An answer in numbers: its kind (0 ok, 1 value, 2 commit, 3 abort, 4 refused, 5 unset), and its value or number, 0 where there is none.
+// An answer in numbers: its kind (0 ok, 1 value, 2 commit, 3 abort, 4 refused, 5 unset), its value or number, and the cell that it names;
+// each 0 where there is none.
 pub struct Numbers {
     pub kind: u32,
     pub detail: u32,
+    pub cell: u32,
 }
 
 // What is shown of a cell at the end, if there is such a cell.
@@ -92,10 +95,22 @@ pub fn reason_number(reason: Reason) -> u32
     ensures { λ r. ⌜ ReasonPromise reason r ⌝ }
 {
     match reason {
-        Reason::Torn => 1,
-        Reason::Overtaken => 2,
-        Reason::Spent => 3,
+        Reason::Torn(_) => 1,
+        Reason::Overtaken(_) => 2,
+        Reason::Spent(_) => 3,
         Reason::GaveUp => 5,
+    }
+}
+
+// The cell that a reason names; 0 where it names none.
+fn reason_cell(reason: Reason) -> u8
+    ensures { λ r. ⌜ r ≡ placeOf (reasonCell (reasonIs reason)) ⌝ }
+{
+    match reason {
+        Reason::Torn(y) => y,
+        Reason::Overtaken(z) => z,
+        Reason::Spent(z) => z,
+        Reason::GaveUp => 0,
     }
 }
 
@@ -125,25 +140,39 @@ fn content_numbers(content: Content) -> Numbers
     ensures { λ r. ⌜ numbersAre r ≡ contentNumbers (contentIs content) ⌝ }
 {
     match content {
-        Content::Unset => Numbers { kind: 5, detail: 0 },
+        Content::Unset => Numbers {
+            kind: 5,
+            detail: 0,
+            cell: 0,
+        },
         Content::Value(value) => Numbers {
             kind: 1,
             detail: value,
+            cell: 0,
         },
     }
 }
 
 // An outcome in numbers.
-fn outcome_numbers(outcome: Outcome) -> Numbers
-    ensures { λ r. ⌜ numbersAre r ≡ outcomeNumbers (outcomeIs outcome) ⌝ }
+pub fn outcome_numbers(outcome: Outcome) -> Numbers
+    ensures { λ r. ⌜ OutcomePromise (outcomeIs outcome) (numbersAre r) ⌝ }
 {
     match outcome {
-        Outcome::Done => Numbers { kind: 0, detail: 0 },
+        Outcome::Done => Numbers {
+            kind: 0,
+            detail: 0,
+            cell: 0,
+        },
         Outcome::Shows(content) => content_numbers(content),
-        Outcome::Committed => Numbers { kind: 2, detail: 0 },
+        Outcome::Committed => Numbers {
+            kind: 2,
+            detail: 0,
+            cell: 0,
+        },
         Outcome::Aborted(reason) => Numbers {
             kind: 3,
             detail: reason_number(reason),
+            cell: reason_cell(reason) as u32,
         },
     }
 }
@@ -160,6 +189,7 @@ pub fn numbers_of(answer: Answer) -> Numbers
         Answer::Refused(refusal) => Numbers {
             kind: 4,
             detail: refusal_number(refusal),
+            cell: 0,
         },
     }
 }

@@ -5,12 +5,13 @@ use Prim.Native.Nat.{ℕ}
 use mathlib.Core.Path.{_≡_, refl}
 use mathlib.Core.List.{List, [], _∷_}
 use mathlib.Core.Option.{none, some}
+use lib.ListN.{replicate}
 use Rattle.rules.specs.steps.Tables.{put, orElse, lowest, someBelow}
 use Rattle.rules.specs.steps.Codes.{plainSheet}
 use Rattle.rules.specs.steps.Replies.{notWellFormed, noRoom}
 use Rattle.rules.specs.steps.Register.{withHandler, idle}
 use Rattle.rules.specs.steps.Checks.{firstHit, stepChecks, inRange}
-use Rattle.rules.specs.steps.Figure.{joined, taken, wrote, versionShows, shown, stamped, stored, begun, isTorn, isOvertaken, isSpent}
+use Rattle.rules.specs.steps.Figure.{joined, taken, wrote, versionShows, shown, stamped, stored, begun, tornCell, overtakenCell, spentCell}
 use Rattle.rules.specs.steps.Figure.{aborting, committing, unlessAborted, readChecks, tryChecks, firstRead, reading, trying, step}
 use Rattle.rules.specs.steps.Turn.{stepRefusal, turned, turn}
 use Rattle.layout.specs.Bits.{hasBit, mask}
@@ -33,37 +34,37 @@ threeSteps phase reports = record {
   place = 1;
 }
 
--- Words for reports, before the row: one in front, twelve, and one behind.
-abbrev fourteen : List ℕ
-fourteen = 9 ∷ 9 ∷ 9 ∷ 9 ∷ 9 ∷ 9 ∷ 9 ∷ 9 ∷ 9 ∷ 9 ∷ 9 ∷ 9 ∷ 9 ∷ 9 ∷ []
+-- Words for reports, before the row: one in front, fifteen, and one behind.
+abbrev seventeen : List ℕ
+seventeen = replicate 17 9
 
 -- The second begin is refused with 13 and reported so, and the try behind it commits. The cut fourth step is not reported.
-pub goes-on : rowing (threeSteps 0 fourteen) ≡ record {
+pub goes-on : rowing (threeSteps 0 seventeen) ≡ record {
   reply = none;
-  leaves = record { words = inPhase 0; reports = 9 ∷ 0 ∷ 0 ∷ 0 ∷ 0 ∷ 0 ∷ 0 ∷ 4 ∷ 13 ∷ 0 ∷ 1 ∷ 2 ∷ 0 ∷ 9 ∷ [] };
+  leaves = record { words = inPhase 0; reports = 9 ∷ 0 ∷ 0 ∷ 0 ∷ 0 ∷ 0 ∷ 0 ∷ 0 ∷ 4 ∷ 13 ∷ 0 ∷ 0 ∷ 1 ∷ 2 ∷ 0 ∷ 0 ∷ 9 ∷ [] };
 }
 unfolding rowing rowedBy rowChecks stepsIn wordsAfter reportsOf turnOf stepWords
     everyBelow numbersFit isGoodBlock isGoodBody isWellFormed viewCell viewHandler view pourCell pourHandler pour
     hasBit mask row rows below put orElse lowest someBelow plainSheet withHandler idle firstHit stepChecks inRange
-    stamped stored begun isOvertaken isSpent aborting committing unlessAborted tryChecks trying step stepRefusal turned turn
+    stamped stored begun overtakenCell spentCell aborting committing unlessAborted tryChecks trying step stepRefusal turned turn
 goes-on = refl
 
 -- A phase of 2 is no register's: 10, and no step is taken or reported.
-pub malformed-first : rowing (threeSteps 2 fourteen) ≡ record { reply = some notWellFormed; leaves = record { words = inPhase 2; reports = fourteen } }
+pub malformed-first : rowing (threeSteps 2 seventeen) ≡ record { reply = some notWellFormed; leaves = record { words = inPhase 2; reports = seventeen } }
 unfolding rowing rowedBy rowChecks stepsIn firstHit everyBelow numbersFit isGoodBlock isGoodBody isWellFormed hasBit mask
     lowest orElse someBelow inRange
 malformed-first = refl
 
--- Thirteen words are just enough from place 1 on,
-pub just-enough : rowing (threeSteps 0 (9 ∷ 9 ∷ 9 ∷ 9 ∷ 9 ∷ 9 ∷ 9 ∷ 9 ∷ 9 ∷ 9 ∷ 9 ∷ 9 ∷ 9 ∷ [])) .reply ≡ none
+-- Sixteen words are just enough from place 1 on,
+pub just-enough : rowing (threeSteps 0 (replicate 16 9)) .reply ≡ none
 unfolding rowing rowedBy rowChecks stepsIn firstHit everyBelow numbersFit isGoodBlock isGoodBody isWellFormed hasBit mask
     lowest orElse someBelow inRange
 just-enough = refl
 
--- and twelve are one too few: 42, and no step is taken or reported.
-pub one-too-few : rowing (threeSteps 0 (9 ∷ 9 ∷ 9 ∷ 9 ∷ 9 ∷ 9 ∷ 9 ∷ 9 ∷ 9 ∷ 9 ∷ 9 ∷ 9 ∷ [])) ≡ record {
+-- and fifteen are one too few: 42, and no step is taken or reported.
+pub one-too-few : rowing (threeSteps 0 (replicate 15 9)) ≡ record {
   reply = some noRoom;
-  leaves = record { words = inPhase 0; reports = 9 ∷ 9 ∷ 9 ∷ 9 ∷ 9 ∷ 9 ∷ 9 ∷ 9 ∷ 9 ∷ 9 ∷ 9 ∷ 9 ∷ [] };
+  leaves = record { words = inPhase 0; reports = replicate 15 9 };
 }
 unfolding rowing rowedBy rowChecks stepsIn firstHit everyBelow numbersFit isGoodBlock isGoodBody isWellFormed hasBit mask
     lowest orElse someBelow inRange
@@ -74,15 +75,32 @@ abbrev readings : RowCall
 readings = record {
   words = inPhase 0;
   steps = 0 ∷ 0 ∷ 0 ∷ 0 ∷ 32 ∷ 0 ∷ 0 ∷ 32 ∷ 0 ∷ 0 ∷ 64 ∷ 0 ∷ 0 ∷ 32 ∷ 0 ∷ [];
-  reports = 9 ∷ 9 ∷ 9 ∷ 9 ∷ 9 ∷ 9 ∷ 9 ∷ 9 ∷ 9 ∷ 9 ∷ 9 ∷ 9 ∷ 9 ∷ 9 ∷ 9 ∷ 9 ∷ 9 ∷ 9 ∷ 9 ∷ 9 ∷ [];
+  reports = replicate 25 9;
   place = 0;
 }
 
 -- Both reads are unset, which is kind 5; what it wrote itself is the value 0, which is kind 1.
 pub unset-reported : rowing readings .leaves .reports
-    ≡ 0 ∷ 0 ∷ 0 ∷ 0 ∷ 0 ∷ 32 ∷ 5 ∷ 0 ∷ 0 ∷ 32 ∷ 5 ∷ 0 ∷ 0 ∷ 64 ∷ 0 ∷ 0 ∷ 0 ∷ 32 ∷ 1 ∷ 0 ∷ []
+    ≡ 0 ∷ 0 ∷ 0 ∷ 0 ∷ 0 ∷ 0 ∷ 32 ∷ 5 ∷ 0 ∷ 0 ∷ 0 ∷ 32 ∷ 5 ∷ 0 ∷ 0 ∷ 0 ∷ 64 ∷ 0 ∷ 0 ∷ 0 ∷ 0 ∷ 32 ∷ 1 ∷ 0 ∷ 0 ∷ []
 unfolding rowing rowedBy rowChecks stepsIn wordsAfter reportsOf turnOf stepWords
     everyBelow numbersFit isGoodBlock isGoodBody isWellFormed viewCell viewHandler view pourCell pourHandler pour
     hasBit mask row rows below put orElse lowest someBelow plainSheet withHandler idle firstHit stepChecks inRange
-    joined taken wrote versionShows shown begun isTorn unlessAborted readChecks firstRead reading step stepRefusal turned turn
+    joined taken wrote versionShows shown begun tornCell unlessAborted readChecks firstRead reading step stepRefusal turned turn
 unset-reported = refl
+
+-- A try by a handler that has read cell 1 of two at another number than its own.
+abbrev overtakenTry : RowCall
+overtakenTry = record {
+  words = 2 ∷ 1 ∷ 0 ∷ 0 ∷ 0 ∷ 0 ∷ 0 ∷ 3 ∷ 1 ∷ 2 ∷ 0 ∷ 0 ∷ 0 ∷ 0 ∷ 0 ∷ 0 ∷ 0 ∷ [];
+  steps = 0 ∷ 1 ∷ 0 ∷ [];
+  reports = replicate 5 9;
+  place = 0;
+}
+
+-- It is reported as kind 3, abort 2, and in the last word cell 1.
+pub cell-reported : rowing overtakenTry .leaves .reports ≡ 0 ∷ 1 ∷ 3 ∷ 2 ∷ 1 ∷ []
+unfolding rowing rowedBy rowChecks stepsIn wordsAfter reportsOf turnOf stepWords
+    everyBelow numbersFit isGoodBlock isGoodBody isWellFormed viewCell viewHandler view pourCell pourHandler pour
+    hasBit mask row rows below put orElse lowest someBelow plainSheet withHandler idle firstHit stepChecks inRange
+    begun overtakenCell spentCell aborting unlessAborted tryChecks trying step stepRefusal turned turn
+cell-reported = refl

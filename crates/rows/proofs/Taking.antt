@@ -36,17 +36,18 @@ room-left long place count whole fits last = by (ltb long (place + reportWidth *
 -- The words of a report, stored one by one, are put in.
 pub report-stored : (reports : List ℕ) (at : ℕ) (a : Ask ℕ) (reply : Reply ℕ) {handler code : ℕ} {numbers : Numbers}
     → handler ≡ a .handler → code ≡ a .code → numbers ≡ replyNumbers reply → at + reportWidth ≤ length reports
-    → set (set (set (set reports (at + 0) handler) (at + 1) code) (at + 2) (numbers .kind)) (at + 3) (numbers .detail)
+    → set (set (set (set (set reports (at + 0) handler) (at + 1) code) (at + 2) (numbers .kind)) (at + 3) (numbers .detail)) (at + 4) (numbers .cell)
     ≡ splice at reportWidth (reportOf a reply) reports
 report-stored reports at a reply {handler} {code} {numbers} by-handler by-code told fits =
-    let report : List ℕ = handler ∷ code ∷ numbers .kind ∷ numbers .detail ∷ [] in
+    let report : List ℕ = handler ∷ code ∷ numbers .kind ∷ numbers .detail ∷ numbers .cell ∷ [] in
     let first : at + 0 ≡ at = omega arith in
     let second : at + 1 ≡ suc at = omega arith in
     let third : at + 2 ≡ suc (suc at) = omega arith in
     let fourth : at + 3 ≡ suc (suc (suc at)) = omega arith in
-    rw (first, second, third, fourth)
+    let fifth : at + 4 ≡ suc (suc (suc (suc at))) = omega arith in
+    rw (first, second, third, fourth, fifth)
     (sets-eq report reports at (omega arith) ∙ append-assoc (take at reports) report (drop (at + reportWidth) reports)
-    ∙ (λ i. splice at reportWidth (by-handler i ∷ by-code i ∷ told i .kind ∷ told i .detail ∷ []) reports))
+    ∙ (λ i. splice at reportWidth (by-handler i ∷ by-code i ∷ told i .kind ∷ told i .detail ∷ told i .cell ∷ []) reports))
 
 -- ── One step more ─────────────────────────────────────────────────────
 

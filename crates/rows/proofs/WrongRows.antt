@@ -6,13 +6,13 @@ use mathlib.Core.List.{List, [], _∷_, _++_}
 use mathlib.Core.Option.{Option, none}
 use native.Mathlib.Omega.{arith}
 use lib.Dec.{eqb}
-use lib.ListN.{getD}
+use lib.ListN.{getD, replicate}
 use Rattle.rules.specs.steps.Tables.{if_then_else_, put, orElse, lowest, someBelow}
 use Rattle.rules.specs.steps.Codes.{plainSheet}
 use Rattle.rules.specs.steps.Replies.{Refusal, replyNumbers}
 use Rattle.rules.specs.steps.Register.{withHandler, idle}
 use Rattle.rules.specs.steps.Checks.{firstHit, stepChecks, inRange}
-use Rattle.rules.specs.steps.Figure.{joined, taken, wrote, shown, stamped, stored, begun, isTorn, isOvertaken, isSpent}
+use Rattle.rules.specs.steps.Figure.{joined, taken, wrote, shown, stamped, stored, begun, tornCell, overtakenCell, spentCell}
 use Rattle.rules.specs.steps.Figure.{aborting, committing, unlessAborted, readChecks, tryChecks, firstRead, reading, trying, step}
 use Rattle.rules.specs.steps.Turn.{stepRefusal, turned, turn}
 use Rattle.rules.specs.demand.Demand.{Ask}
@@ -35,7 +35,7 @@ fourSteps = 0 ∷ 0 ∷ 0 ∷ 0 ∷ 3 ∷ 0 ∷ 0 ∷ 64 ∷ 5 ∷ 0 ∷ 32 ∷ 
 
 -- Words for five reports, with one word before them and one behind.
 unfoldable pub marked : List ℕ
-marked = 9 ∷ 9 ∷ 9 ∷ 9 ∷ 9 ∷ 9 ∷ 9 ∷ 9 ∷ 9 ∷ 9 ∷ 9 ∷ 9 ∷ 9 ∷ 9 ∷ 9 ∷ 9 ∷ 9 ∷ 9 ∷ 9 ∷ 9 ∷ 9 ∷ 9 ∷ []
+marked = replicate 27 9
 
 -- The register behind the row: an open transaction, that has written 5.
 unfoldable pub written : List ℕ
@@ -43,7 +43,7 @@ written = 1 ∷ 1 ∷ 0 ∷ 0 ∷ 1 ∷ 0 ∷ 1 ∷ 0 ∷ 0 ∷ 5 ∷ 7 ∷ []
 
 -- The reports: ok, refused with 15, ok, and the value 5. No other word is another.
 unfoldable pub reported : List ℕ
-reported = 9 ∷ 0 ∷ 0 ∷ 0 ∷ 0 ∷ 0 ∷ 3 ∷ 4 ∷ 15 ∷ 0 ∷ 64 ∷ 0 ∷ 0 ∷ 0 ∷ 32 ∷ 1 ∷ 5 ∷ 9 ∷ 9 ∷ 9 ∷ 9 ∷ 9 ∷ []
+reported = 9 ∷ 0 ∷ 0 ∷ 0 ∷ 0 ∷ 0 ∷ 0 ∷ 3 ∷ 4 ∷ 15 ∷ 0 ∷ 0 ∷ 64 ∷ 0 ∷ 0 ∷ 0 ∷ 0 ∷ 32 ∷ 1 ∷ 5 ∷ 0 ∷ 9 ∷ 9 ∷ 9 ∷ 9 ∷ 9 ∷ 9 ∷ []
 
 -- What the row is given.
 abbrev fourGiven : RowCall
@@ -75,7 +75,7 @@ computed : Computed
 unfolding atRest fourSteps marked written reported stoppedAt stepsIn wordsAfter reportsOf rowChecks rowedBy rowing turnOf stepWords
     everyBelow numbersFit isGoodBlock isGoodBody isWellFormed viewCell viewHandler view pourCell pourHandler pour
     hasBit mask row rows below put orElse lowest someBelow plainSheet withHandler idle firstHit stepChecks inRange
-    joined taken wrote shown stamped stored begun isTorn isOvertaken isSpent aborting committing
+    joined taken wrote shown stamped stored begun tornCell overtakenCell spentCell aborting committing
     unlessAborted readChecks tryChecks firstRead reading trying step stepRefusal turned turn
 computed = record { reply = refl; words = refl; reports = refl; stopped = refl; filled = refl }
 

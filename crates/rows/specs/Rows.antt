@@ -28,9 +28,9 @@ stepsIn (handler ∷ code ∷ value ∷ more) = record { handler = handler; code
 abbrev pub asking : List ℕ → Ask ℕ → Due (Reply ℕ) (List ℕ)
 asking words a = stepping (record { words = words; handler = a .handler; code = a .code; value = a .value })
 
--- The report of a step: handler and code as they were given, the kind of the reply, and its value or number.
+-- The report of a step: handler and code as they were given, the kind of the reply, its value or number, and the cell that it names.
 abbrev pub reportOf : Ask ℕ → Reply ℕ → List ℕ
-reportOf a reply = let numbers = replyNumbers reply in a .handler ∷ a .code ∷ numbers .kind ∷ numbers .detail ∷ []
+reportOf a reply = let numbers = replyNumbers reply in a .handler ∷ a .code ∷ numbers .kind ∷ numbers .detail ∷ numbers .cell ∷ []
 
 -- The words after steps one by one, each on the words that the one before it left.
 unfoldable pub wordsAfter : List ℕ → List (Ask ℕ) → List ℕ

@@ -41,6 +41,7 @@ fn put_report(reports: &mut [u32], at: usize, handler: u32, code: u32, answer: A
     reports[at + places::REPORT_CODE] = code;
     reports[at + places::REPORT_KIND] = numbers.kind;
     reports[at + places::REPORT_DETAIL] = numbers.detail;
+    reports[at + places::REPORT_CELL] = numbers.cell;
 }
 
 // Takes so many steps of a row, and puts the report of each behind that of the one before it.

@@ -6,6 +6,7 @@ pub mod Committing
 pub mod Judged
 pub mod ExactAborts
 pub mod ThirdDemand
+pub mod TornAtAll
 pub mod AllCases
 pub mod CaseHistories
 pub mod CasesComputed

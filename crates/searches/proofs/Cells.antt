@@ -4,12 +4,12 @@ use native.Mathlib.Omega.{arith}
 use mathlib.Core.Path.{_≡_, sym, ap, _∙_}
 use mathlib.Core.Bool.{Bool, true, false, not, _&&_, and-false, and-true}
 use mathlib.Core.List.{List}
-use mathlib.Core.Option.{some}
+use mathlib.Core.Option.{none, some}
 use lib.Dec.{eqb, ltb}
 use lib.ListN.{length}
 use borrow.Author.Tests.{eqb-true, ltb-true, ltb-false}
-use Rattle.rules.specs.steps.Tables.{lowest, isFound, someBelow}
-use Rattle.rules.proofs.steps.Tables.{by, both-ways, and-left, and-both, lowest-is, some-none}
+use Rattle.rules.specs.steps.Tables.{lowest}
+use Rattle.rules.proofs.steps.Tables.{by, both-ways, and-left, and-both, lowest-is, lowest-empty}
 use Rattle.layout.specs.Bits.{hasBit}
 use Rattle.layout.specs.Places.{ownAt}
 use Rattle.layout.proofs.Bits.{no-bit-from}
@@ -26,12 +26,12 @@ pub record Searched (set : ℕ) (test : ℕ → Bool) (left : ℕ) : Type 0 wher
 pub search-begins : (set : ℕ) (test : ℕ → Bool) → Searched set test set
 search-begins set test = record { part = λ y e. e; failed = λ y e. rw e }
 
--- In the end none is left: no cell of the set passes.
-pub search-misses : (m : ℕ) {set left : ℕ} {test : ℕ → Bool} → Searched set test left → left ≡ 0 → false ≡ someBelow m (λ y. hasBit set y && test y)
-search-misses m {set} {left} {test} searched none = sym (some-none m (λ y. hasBit set y && test y) (λ y _. searched .failed y (gone y)))
+-- In the end none is left: no cell of the set is found.
+pub search-misses : (m : ℕ) {set left : ℕ} {test : ℕ → Bool} → Searched set test left → left ≡ 0 → none ≡ lowest m (λ y. hasBit set y && test y)
+search-misses m {set} {left} {test} searched empty = sym (lowest-empty m (λ y. hasBit set y && test y) (λ y _. searched .failed y (gone y)))
   where
     gone : (y : ℕ) → hasBit left y ≡ false
-    gone y = rw none (no-bit-from 0 0 .1 (omega arith) y (omega arith))
+    gone y = rw empty (no-bit-from 0 0 .1 (omega arith) y (omega arith))
 
 -- Of a set of some of the m cells, the lowest that is left is looked at.
 pub record Looked (m set : ℕ) (test : ℕ → Bool) (body : List ℕ) (left y : ℕ) : Type 0 where
@@ -49,18 +49,13 @@ module _ {m set : ℕ} {test : ℕ → Bool} {body : List ℕ} {left y : ℕ} (l
   pub own-inside : ownAt m y < length body
   own-inside = omega (arith, cell-inside, cell-ends m y cell-inside, looked .among .cells)
 
-  -- It passes: it is the lowest of the set that does.
-  pub search-finds : test y ≡ true → lowest m (λ z. hasBit set z && test z) ≡ some y
-  search-finds passes = lowest-is m (λ z. hasBit set z && test z) y (record {
+  -- It passes: it is the lowest of the set that does, and the one found.
+  pub search-finds : test y ≡ true → some y ≡ lowest m (λ z. hasBit set z && test z)
+  search-finds passes = sym (lowest-is m (λ z. hasBit set z && test z) y (record {
     below = cell-inside;
     passes = and-both _ _ (looked .searched .part y (looked .least .inside)) passes;
     first = λ z h. looked .searched .failed z (looked .least .first z h);
-  })
-
-  -- So some cell of the set passes.
-  pub search-hits : test y ≡ true → true ≡ someBelow m (λ z. hasBit set z && test z)
-  unfolding someBelow
-  search-hits passes = sym (ap isFound (search-finds passes))
+  }))
 
   -- It fails: the search goes on without it.
   pub search-goes : {rest : ℕ} → Without left y rest → test y ≡ false → Searched set test rest

@@ -4,54 +4,56 @@
 ghost use mathlib.Core.Path.{_≡_};
 ghost use Prim.Native.Nat.{_+_, _≤_};
 ghost use lib.ListN.{length};
-ghost use Rattle.rules.specs.steps.Tables.{someBelow};
+ghost use Rattle.rules.specs.steps.Tables.{lowest};
+ghost use Rattle.words.specs.Sets.{foundIs};
 ghost use Rattle.searches.specs.Searches.{Among, lower, differs, filled};
+use words::Found;
 
-// Some cell of the set has a number in the row held that is below the one in the row of numbers.
-pub fn torn(body: &[u32], m: usize, set: u32, held: usize, numbers: usize) -> bool
+// The lowest cell of the set with a number in the row held that is below the one in the row of numbers.
+pub fn torn(body: &[u32], m: usize, set: u32, held: usize, numbers: usize) -> Found
     requires { ⌜ Among m set (now body) × (held + m ≤ length (now body)) × (numbers + m ≤ length (now body)) ⌝ }
-    ensures { λ r. ⌜ r ≡ someBelow m (lower set (now (body .entry)) held numbers) ⌝ }
+    ensures { λ r. ⌜ foundIs r ≡ lowest m (lower set (now (body .entry)) held numbers) ⌝ }
 {
     let mut left = set;
     while left != 0 {
         let y = words::lowest(left);
         if body[held + y] < body[numbers + y] {
-            return true;
+            return Found::Cell(y as u8);
         }
         left = words::without(left, y);
     }
-    false
+    Found::Nothing
 }
 
-// Some cell of the set has a number in the row held that is not its own.
-pub fn overtaken(body: &[u32], m: usize, set: u32, held: usize) -> bool
+// The lowest cell of the set with a number in the row held that is not its own.
+pub fn overtaken(body: &[u32], m: usize, set: u32, held: usize) -> Found
     requires { ⌜ Among m set (now body) × (held + m ≤ length (now body)) ⌝ }
-    ensures { λ r. ⌜ r ≡ someBelow m (differs m set (now (body .entry)) held) ⌝ }
+    ensures { λ r. ⌜ foundIs r ≡ lowest m (differs m set (now (body .entry)) held) ⌝ }
 {
     let mut left = set;
     while left != 0 {
-        let y = words::lowest(left);
-        let own = places::own_number(m, y);
-        if body[held + y] != body[own] {
-            return true;
+        let z = words::lowest(left);
+        let own = places::own_number(m, z);
+        if body[held + z] != body[own] {
+            return Found::Cell(z as u8);
         }
-        left = words::without(left, y);
+        left = words::without(left, z);
     }
-    false
+    Found::Nothing
 }
 
-// Some cell of the set has 65,535 as its own number.
-pub fn spent(body: &[u32], m: usize, set: u32) -> bool
+// The lowest cell of the set with 65,535 as its own number.
+pub fn spent(body: &[u32], m: usize, set: u32) -> Found
     requires { ⌜ Among m set (now body) ⌝ }
-    ensures { λ r. ⌜ r ≡ someBelow m (filled m set (now (body .entry))) ⌝ }
+    ensures { λ r. ⌜ foundIs r ≡ lowest m (filled m set (now (body .entry))) ⌝ }
 {
     let mut left = set;
     while left != 0 {
-        let y = words::lowest(left);
-        if body[places::own_number(m, y)] == limits::MOST_NUMBER {
-            return true;
+        let z = words::lowest(left);
+        if body[places::own_number(m, z)] == limits::MOST_NUMBER {
+            return Found::Cell(z as u8);
         }
-        left = words::without(left, y);
+        left = words::without(left, z);
     }
-    false
+    Found::Nothing
 }

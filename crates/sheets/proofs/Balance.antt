@@ -66,11 +66,11 @@ module _ (S : Setting ℕ) (r : Register ℕ) (i : ℕ) where
   step-balances (write x) v phase = rw phase (omega (arith, open-here (r .cells) (wrote handler x v)))
   step-balances (read x) v phase = reading-cases S r i handler (Balances (read x)) x
       (λ copied. omega arith)
-      (λ first isTorn. rw phase (omega (arith, open-here (r .cells) (idle S (handler .numbers)))))
+      (λ first y isTorn. rw phase (omega (arith, open-here (r .cells) (idle S (handler .numbers)))))
       (λ first isTaken. rw phase (omega (arith, open-here (r .cells) (hasTaken r handler x))))
   step-balances try v phase = trying-cases S r i handler (Balances try)
-      (λ stale. rw phase (omega (arith, open-here (r .cells) (idle S (handler .numbers)))))
-      (λ current full. rw phase (omega (arith, open-here (r .cells) (idle S (handler .numbers)))))
+      (λ z stale. rw phase (omega (arith, open-here (r .cells) (idle S (handler .numbers)))))
+      (λ current z full. rw phase (omega (arith, open-here (r .cells) (idle S (handler .numbers)))))
       (λ current roomy. rw phase (omega (arith, open-here (stored r handler) (idle S (stamped r handler)))))
 
 module _ (m n : ℕ) (wellFormed : Bool) (r : Register ℕ) (i code v : ℕ) where

@@ -2,8 +2,8 @@
 -- register. Between the stores they hold the register whose transaction has the stamped numbers, and then that one with the cells stored.
 use Prim.Native.Nat.{ℕ, _+_, _-_, _≤_, _<_}
 use mathlib.Core.Path.{_≡_, sym, ap, ap₂, _∙_}
-use mathlib.Core.Bool.{false}
 use mathlib.Core.List.{List}
+use mathlib.Core.Option.{none}
 use native.Mathlib.Omega.{arith}
 use lib.Dec.{ltb}
 use lib.ListN.{length, getD, take, drop}
@@ -12,7 +12,7 @@ use borrow.Rule.Slice.PartMut.{putMid}
 use Rattle.rules.specs.steps.Codes.{try}
 use Rattle.rules.specs.steps.Replies.{committed}
 use Rattle.rules.specs.steps.Register.{Handler, Register, withHandler, idle}
-use Rattle.rules.specs.steps.Figure.{stamped, isOvertaken, isSpent}
+use Rattle.rules.specs.steps.Figure.{stamped, overtakenCell, spentCell}
 use Rattle.rules.proofs.steps.Tables.{by, put-here}
 use Rattle.rules.proofs.steps.Confined.{ConfinedHandler, stamped-confined}
 use Rattle.layout.specs.Bits.{hasBit}
@@ -127,7 +127,7 @@ module _ {m n i : ℕ} {words : List ℕ} (seated : Seated m n words i) {from to
 
 -- A try that goes through is taken by a commit.
 pub commit-takes : {m n i : ℕ} {words after : List ℕ} → let r = view m n words in
-    isOvertaken (wordSetting m) r (r .handlers i) ≡ false → isSpent (wordSetting m) r (r .handlers i) ≡ false
+    overtakenCell (wordSetting m) r (r .handlers i) ≡ none → spentCell (wordSetting m) r (r .handlers i) ≡ none
     → Commits m n words i after → Takes m n words i try 0 committed after
 commit-takes {m} {n} {i} {words} current room left =
     let goes = try-commits m (view m n words) i 0 current room in

@@ -1,17 +1,17 @@
--- The first read over a whole body: what is asked of the words is the rules' test, and with the handler put to rest, or with the cell
--- joined to it, the body holds the rules' register.
+-- The first read over a whole body: the cell that is found in the words is the one that the rules find, and with the handler put to rest,
+-- or with the cell joined to it, the body holds the rules' register.
 use Prim.Native.Nat.{ℕ, _+_, _-_}
-use mathlib.Core.Path.{_≡_, refl, sym, ap, ap₂, subst, _∙_}
-use mathlib.Core.Bool.{true, false}
+use mathlib.Core.Path.{_≡_, sym, ap, ap₂, subst, _∙_}
 use mathlib.Core.List.{List}
+use mathlib.Core.Option.{none, some}
 use lib.ListN.{getD, take, drop}
 use borrow.Rule.Slice.PartMut.{putMid}
 use Rattle.rules.specs.steps.Codes.{read}
 use Rattle.rules.specs.steps.Replies.{Content, torn, shows, aborted}
-use Rattle.rules.specs.steps.Tables.{someBelow}
+use Rattle.rules.specs.steps.Tables.{lowest}
 use Rattle.rules.specs.steps.Register.{Cell, Handler, Register, idle}
-use Rattle.rules.specs.steps.Figure.{versionShows, isTorn}
-use Rattle.rules.proofs.steps.Searches.{some-same}
+use Rattle.rules.specs.steps.Figure.{versionShows, tornCell}
+use Rattle.rules.proofs.steps.Searches.{lowest-same}
 use Rattle.layout.specs.Places.{cellStart, handlerStart, handlerLong, transactionFrom}
 use Rattle.layout.specs.View.{wordSetting, viewHandler, view, pourHandler}
 use Rattle.layout.proofs.ViewPour.{view-confined}
@@ -22,7 +22,7 @@ use Rattle.searches.specs.Searches.{lower}
 use Rattle.block.specs.Blocks.{rowTable, Small, joinedWith}
 use Rattle.places.specs.Spans.{Spans}
 use Rattle.steps.specs.Takes.{Seated, Unread, Takes}
-use Rattle.steps.proofs.Lent.{lent-takes}
+use Rattle.steps.proofs.Lent.{lent-takes, rest-takes}
 use Rattle.steps.proofs.Said.{read-said, transaction-said, number-said, value-said}
 use Rattle.steps.proofs.Reading.{first-read-torn, first-read-taken}
 
@@ -45,22 +45,21 @@ module _ {m n i x : ℕ} {words : List ℕ} (first : Unread m n words i x) {star
   abbrev c : Cell ℕ
   c = r .cells x
 
-  -- What the words are asked is the rules' test.
+  -- The cell that is found in the words is the one that the rules find.
   pub torn-told : {place : ℕ} → place ≡ transactionFrom m
-      → someBelow m (lower (getD words (from + 1) 0) words (from + place) (start + 1)) ≡ isTorn (wordSetting m) h c
-  unfolding isTorn
-  torn-told placed = some-same m _ _ (λ y l. rw (
+      → lowest m (lower (getD words (from + 1) 0) words (from + place) (start + 1)) ≡ tornCell (wordSetting m) h c
+  unfolding tornCell
+  torn-told placed = lowest-same m _ _ (λ y l. rw (
     read-said seated (span .starts) y l,
     transaction-said seated (span .starts) y l placed,
     number-said n words (first .ready .cell) starts y l,
   ))
 
   -- Abort 1 puts the handler to rest.
-  pub torn-takes : {last : List ℕ} → isTorn (wordSetting m) h c ≡ true
+  pub torn-takes : {y : ℕ} {last : List ℕ} → tornCell (wordSetting m) h c ≡ some y
       → last ≡ pourHandler m (idle (wordSetting m) (viewHandler m (take (to - from) (drop from words)) .numbers))
-      → Takes m n words i (read x) 0 (aborted torn) (putMid from (to - from) words last)
-  torn-takes old rests =
-      lent-takes seated span (λ g. idle (wordSetting m) (g .numbers)) (first-read-torn m r i x 0 (first .unread) (first .unwritten) old) refl rests
+      → Takes m n words i (read x) 0 (aborted (torn y)) (putMid from (to - from) words last)
+  torn-takes old = rest-takes seated span (first-read-torn m r i x 0 (first .unread) (first .unwritten) old)
 
   -- The row that was copied out of the cell's words stands for its numbers.
   module _ {row : List ℕ} (copied : RowOf m (λ y. getD words (start + 1 + y) 0) row) where
@@ -76,7 +75,7 @@ module _ {m n i x : ℕ} {words : List ℕ} (first : Unread m n words i x) {star
     row-small = subst (Small m) (sym numbers) (view-bounded (seated .formed .good) .cells x (first .ready .cell))
 
     -- With the cell joined at its own number, the body holds the rules' register; what its version shows is replied.
-    pub read-takes : {content : Content ℕ} {last : List ℕ} → isTorn (wordSetting m) h c ≡ false
+    pub read-takes : {content : Content ℕ} {last : List ℕ} → tornCell (wordSetting m) h c ≡ none
         → content ≡ versionShows (getD words (start + 1 + x) 0) (getD words (start + 0) 0)
         → last ≡ pourHandler m (joinedWith (viewHandler m (take (to - from) (drop from words))) x (getD words (start + 0) 0) (rowTable row))
         → Takes m n words i (read x) 0 (shows content) (putMid from (to - from) words last)

@@ -7,9 +7,9 @@ use native.Mathlib.Omega.{arith}
 use lib.ListN.{length, take, drop}
 use borrow.Rule.Slice.PartMut.{putMid}
 use Rattle.rules.specs.steps.Codes.{Step}
-use Rattle.rules.specs.steps.Replies.{Outcome}
-use Rattle.rules.specs.steps.Register.{Handler, withHandler}
-use Rattle.rules.specs.steps.Figure.{step}
+use Rattle.rules.specs.steps.Replies.{Reason, Outcome, aborted}
+use Rattle.rules.specs.steps.Register.{Handler, withHandler, idle}
+use Rattle.rules.specs.steps.Figure.{aborting, endedWith, step}
 use Rattle.layout.specs.Places.{cellLong, bodyLong, handlerStart, handlerLong}
 use Rattle.layout.specs.View.{wordSetting, viewHandler, view, pourHandler, holding, Holds}
 use Rattle.layout.specs.WellFormed.{GoodBlock}
@@ -86,3 +86,11 @@ module _ {m n i : ℕ} {body : List ℕ} (seated : Seated m n body i) where
       replied = same ∙ ap (λ q. q .outcome) (sym result);
       left = block-back made last back ∙ ap (λ q. holding body m n (q .after)) (sym result);
     }
+
+    -- A step of the rules that ends the transaction with a reason is taken by putting back the block of a handler that rests.
+    pub rest-takes : {s : Step} {value : ℕ} {reason : Reason} {last : List ℕ}
+        → step (wordSetting m) (view m n body) i s value ≡ endedWith (wordSetting m) reason (view m n body) i (view m n body .handlers i)
+        → last ≡ pourHandler m (idle (wordSetting m) (viewHandler m (take (to - from) (drop from body)) .numbers))
+        → Takes m n body i s value (aborted reason) (putMid from (to - from) body last)
+    unfolding aborting
+    rest-takes ends rests = lent-takes (λ h. idle (wordSetting m) (h .numbers)) ends refl rests

@@ -4,17 +4,18 @@ use native.Mathlib.Omega.{arith}
 use mathlib.Core.Path.{_≡_, sym, ap, ap₂, _∙_, fun-ext}
 use mathlib.Core.Bool.{true, false, _||_, or-true}
 use mathlib.Core.List.{List}
+use mathlib.Core.Option.{none, some}
 use lib.Dec.{eqb, ltb}
 use borrow.Author.Tests.{eqb-true, eqb-false, le-ltb, ltb-true, ltb-false}
 use Rattle.rules.specs.steps.Codes.{read}
-use Rattle.rules.specs.steps.Replies.{Content, torn, value, shows, aborted}
+use Rattle.rules.specs.steps.Replies.{Content, torn, value, shows}
 use Rattle.rules.specs.steps.Tables.{if_then_else_, put}
-use Rattle.rules.specs.steps.Register.{Setting, Cell, Handler, Register, withHandler, idle}
+use Rattle.rules.specs.steps.Register.{Setting, Cell, Handler, Register, withHandler}
 use Rattle.rules.specs.steps.Checks.{firstHit}
 use Rattle.rules.specs.steps.Figure.{joined, taken, versionShows, cellShows, shown}
-use Rattle.rules.specs.steps.Figure.{isTorn, aborting, unlessAborted, readChecks, firstRead, reading, step}
-use Rattle.rules.proofs.steps.Tables.{by, both-ways, SameFrom, some-false, put-here, put-other}
-use Rattle.rules.proofs.steps.Searches.{some-same}
+use Rattle.rules.specs.steps.Figure.{tornCell, endedWith, unlessAborted, readChecks, firstRead, reading, step}
+use Rattle.rules.proofs.steps.Tables.{by, both-ways, SameFrom, lowest-none, put-here, put-other}
+use Rattle.rules.proofs.steps.Searches.{lowest-same}
 use Rattle.rules.proofs.steps.Steps.{taken-shows}
 use Rattle.layout.specs.View.{wordSetting, view}
 use Rattle.layout.specs.WellFormed.{GoodBody}
@@ -52,17 +53,17 @@ module _ {m n : ℕ} {body : List ℕ} (good : GoodBody m n body) where
 -- ── The first read ────────────────────────────────────────────────────
 
 -- A cell that joins the read set is not torn itself: its number was just set. So the test may be asked before it joins.
-torn-before : (S : Setting ℕ) (h : Handler ℕ) (x : ℕ) (c : Cell ℕ) → h .readSet x ≡ false → isTorn S (joined h x c) c ≡ isTorn S h c
-unfolding isTorn joined
-torn-before S h x c unread = some-same (S .cellCount) _ _ (λ y _. by (eqb y x)
+torn-before : (S : Setting ℕ) (h : Handler ℕ) (x : ℕ) (c : Cell ℕ) → h .readSet x ≡ false → tornCell S (joined h x c) c ≡ tornCell S h c
+unfolding tornCell joined
+torn-before S h x c unread = lowest-same (S .cellCount) _ _ (λ y _. by (eqb y x)
     (λ e. rw (eqb-true y x e, unread, put-here, put-here, le-ltb (c .numbers x) (c .numbers x) (omega arith)))
     (λ e. rw (put-other (h .readSet) x true y (eqb-false y x e), put-other (h .transaction) x (c .numbers x) y (eqb-false y x e))))
 
 -- Where nothing is torn, a number of the read set is not below the cell's, and raising every number leaves it. So all numbers may be
 -- raised, and then the cell joins at its own.
-taken-is : (m : ℕ) (h : Handler ℕ) (x : ℕ) (c : Cell ℕ) → isTorn (wordSetting m) h c ≡ false → SameFrom m false (h .readSet)
+taken-is : (m : ℕ) (h : Handler ℕ) (x : ℕ) (c : Cell ℕ) → tornCell (wordSetting m) h c ≡ none → SameFrom m false (h .readSet)
     → taken (joined h x c) x c ≡ joinedWith h x (c .value) (c .numbers)
-unfolding isTorn joinedWith taken joined
+unfolding tornCell joinedWith taken joined
 taken-is m h x c whole beyond = λ d. record {
   phase = 1;
   readSet = put (h .readSet) x true;
@@ -77,7 +78,7 @@ taken-is m h x c whole beyond = λ d. record {
 
     held : (y : ℕ) → h .readSet y ≡ true → raised y ≡ h .transaction y
     held y inside = by (ltb y m)
-        (λ e. let kept = some-false m _ whole y (ltb-true y m e) in
+        (λ e. let kept = lowest-none m _ whole y (ltb-true y m e) in
         let least = ltb-false (h .transaction y) (c .numbers y) (rw inside at kept) in omega arith)
         (λ e. both-ways inside (beyond y (ltb-false y m e)))
 
@@ -93,15 +94,14 @@ taken-is m h x c whole beyond = λ d. record {
         ) (by (h .readSet y) (λ q. rw q (held y q)) (λ q. rw q)))
 
 module _ (m : ℕ) (r : Register ℕ) (i x v : ℕ) (unread : r .handlers i .readSet x ≡ false) (unwritten : r .handlers i .writtenSet x ≡ false) where
-  -- The first read of a cell that is torn.
-  pub first-read-torn : isTorn (wordSetting m) (r .handlers i) (r .cells x) ≡ true
-      → step (wordSetting m) r i (read x) v
-      ≡ record { outcome = aborted torn; after = withHandler r i (idle (wordSetting m) (r .handlers i .numbers)) }
-  unfolding step reading firstRead readChecks firstHit unlessAborted aborting
+  -- The first read of a cell that is torn by cell y, the lowest such.
+  pub first-read-torn : {y : ℕ} → tornCell (wordSetting m) (r .handlers i) (r .cells x) ≡ some y
+      → step (wordSetting m) r i (read x) v ≡ endedWith (wordSetting m) (torn y) r i (r .handlers i)
+  unfolding step reading firstRead readChecks firstHit unlessAborted
   first-read-torn old = rw (unread, unwritten, torn-before (wordSetting m) (r .handlers i) x (r .cells x) unread ∙ old)
 
   -- The first read of a cell that is not.
-  pub first-read-taken : isTorn (wordSetting m) (r .handlers i) (r .cells x) ≡ false → SameFrom m false (r .handlers i .readSet)
+  pub first-read-taken : tornCell (wordSetting m) (r .handlers i) (r .cells x) ≡ none → SameFrom m false (r .handlers i .readSet)
       → step (wordSetting m) r i (read x) v ≡ record {
         outcome = shows (cellShows x (r .cells x));
         after = withHandler r i (joinedWith (r .handlers i) x (r .cells x .value) (r .cells x .numbers));

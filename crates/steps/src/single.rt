@@ -11,6 +11,7 @@ use places::cell_at;
 use replies::Content;
 use replies::Outcome;
 use replies::Reason;
+use words::Found;
 
 // Whether the handler's transaction is open.
 pub fn is_open(body: &[u32], m: usize, n: usize, i: usize) -> bool
@@ -70,9 +71,9 @@ fn first_read(body: &mut [u32], m: usize, n: usize, i: usize, x: usize) -> Outco
     let end = span.end;
     let held = start + places::transaction_numbers(m);
     let set = body[start + places::READ_SET];
-    if searches::torn(body, m, set, held, numbers) {
+    if let Found::Cell(y) = searches::torn(body, m, set, held, numbers) {
         block::rest(&mut body[start..end], m);
-        return Outcome::Aborted(Reason::Torn);
+        return Outcome::Aborted(Reason::Torn(y));
     }
     let value = body[first + places::VALUE];
     let own = body[numbers + x];

@@ -1,4 +1,4 @@
-// Sets of cells in a word, and rows of words: cleared, copied and copied out.
+// Sets of cells in a word, what is found among cells, and rows of words: cleared, copied and copied out.
 // Internal: called by our crates alone, which show what each function requires.
 ghost use mathlib.Core.Path.{_≡_};
 ghost use mathlib.Core.Bool.{true};
@@ -10,6 +10,12 @@ ghost use Rattle.limits.specs.Limits.{mostCells};
 ghost use Rattle.layout.specs.Bits.{hasBit, withBit};
 ghost use Rattle.words.specs.Rows.{Changed, RowOf};
 ghost use Rattle.words.specs.Sets.{Lowest, Without};
+
+// What a search among the cells finds: the lowest cell that passes its test, or none.
+pub enum Found {
+    Nothing,
+    Cell(u8),
+}
 
 // Whether cell c is in the set.
 pub fn has(set: u32, c: usize) -> bool

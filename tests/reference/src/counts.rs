@@ -1,5 +1,7 @@
 //! How often each kind of thing was met in a comparison, by its name. A comparison of random files that never met what it is for
 //! would show nothing.
+use crate::aborts::Choice;
+use crate::judge::History;
 use crate::lines::{Line, Run};
 use crate::register::Reply;
 use std::collections::{BTreeMap, BTreeSet};
@@ -8,29 +10,36 @@ use std::collections::{BTreeMap, BTreeSet};
 pub const READS: [&str; 9] =
     ["unset", "unset again", "value", "value 0", "value 0 again", "own value 0", "cell unset", "cell value", "cell value 0"];
 
+/// The name of a reply: that of an abort has its reason alone, and that of a value only whether it is 0.
+pub fn name(reply: Reply) -> String {
+    match reply {
+        Reply::Value(1..) => "value".into(),
+        Reply::Abort { reason, .. } => format!("abort {reason}"),
+        reply => reply.to_string(),
+    }
+}
+
 /// The codes of what each handler's open transaction has read and written up to a line.
 #[derive(Default)]
 struct Had(BTreeMap<u8, BTreeSet<u8>>);
 
 impl Had {
-    /// The name of a line's reply; of a read also whether it came again, or was of the transaction's own write, and whether it is 0.
+    /// The name of a line's reply; of a read also whether it came again, or was of the transaction's own write.
     fn name(&mut self, line: &Line) -> String {
         let had = self.0.entry(line.handler).or_default();
-        let Some(code) = line.code else { return line.reply.to_string() };
+        let what = name(line.reply);
+        let Some(code) = line.code else { return what };
         match line.reply {
             Reply::Ok if code == 0 => had.clear(),
             Reply::Ok => drop(had.insert(code)),
             _ => (),
         }
-        let what = match line.reply {
-            Reply::Value(0) => "value 0",
-            Reply::Value(_) => "value",
-            Reply::Unset => "unset",
-            reply => return reply.to_string(),
-        };
+        if !matches!(line.reply, Reply::Value(_) | Reply::Unset) {
+            return what;
+        }
         match (had.contains(&(code + 32)), had.insert(code)) {
             (true, _) => format!("own {what}"),
-            (false, true) => what.into(),
+            (false, true) => what,
             (false, false) => format!("{what} again"),
         }
     }
@@ -66,6 +75,11 @@ impl Counts {
                 Some(_) => "cell value",
             });
         }
+    }
+
+    /// Notes what the aborts of a history show of the cells that they name.
+    pub fn choices(&mut self, history: &History) {
+        history.choices.iter().flat_map(Choice::names).for_each(|name| self.note(name));
     }
 
     /// All names that were met.

@@ -56,7 +56,7 @@ impl Course {
         let reply = register::step(&mut self.words, handler as u32, step.code.into(), step.value);
         match reply {
             Reply::Ok => self.open[handler] = true,
-            Reply::Commit | Reply::Abort(_) => self.open[handler] = false,
+            Reply::Commit | Reply::Abort { .. } => self.open[handler] = false,
             Reply::Value(_) | Reply::Unset | Reply::Refused(_) => (),
         }
         self.commits += usize::from(reply == Reply::Commit);

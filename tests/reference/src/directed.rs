@@ -50,6 +50,19 @@ mod tests {
     }
 
     #[test]
+    fn each_cell_is_named_in_turn() {
+        let named = |name: &str, ending: &str| {
+            let file = all().into_iter().find(|directed| directed.name == name).expect(name).file;
+            let lines = runner::printed(&file);
+            let aborts = lines.lines().filter_map(|line| line.split_once(ending)?.1.parse().ok());
+            aborts.collect::<Vec<u32>>()
+        };
+        assert_eq!(named("each cell overtaken in turn", "abort 1 cell "), (0..32).collect::<Vec<_>>());
+        assert_eq!(named("each cell the lowest of those overtaken, read", "abort 1 cell "), (0..31).collect::<Vec<_>>());
+        assert_eq!(named("each cell the lowest of those overtaken, tried", "abort 2 cell "), (0..32).collect::<Vec<_>>());
+    }
+
+    #[test]
     fn the_deep_ones_are_deep() {
         let links = |directed: &Directed| judge::run(&directed.file).unwrap().1.links;
         let deepest = |name| all().iter().filter(|directed| directed.name == name).flat_map(links).max();

@@ -36,7 +36,8 @@ fn any_shape(random: &mut Random) -> Parts {
         150..=219 => shapes::edge(random),
         220..=319 => shapes::careless(random),
         320..=569 => shapes::long_pasts(random),
-        570..=719 => shapes::readers_and_writers(random),
+        570..=669 => shapes::readers_and_writers(random),
+        670..=819 => shapes::half_seen(random),
         _ => shapes::contended(random),
     }
 }
@@ -51,6 +52,7 @@ mod tests {
     use super::*;
     use crate::counts::Counts;
     use crate::runner::run;
+    use crate::{aborts, judge};
 
     #[test]
     fn sound_files_have_every_reply() {
@@ -84,6 +86,16 @@ mod tests {
         ];
         assert_eq!(counts.names(), all);
         assert!(all.iter().all(|name| counts.of(name) > 100), "{}", counts.shown());
+    }
+
+    #[test]
+    fn aborts_of_sound_files_choose_from_several_cells() {
+        let mut random = Random::new(2);
+        let mut counts = Counts::default();
+        for _ in 0..600 {
+            judge::run(&sound(&mut random)).iter().for_each(|(_, history)| counts.choices(history));
+        }
+        assert!(aborts::in_files().iter().all(|name| counts.of(name) > 50), "{}", counts.shown());
     }
 
     #[test]

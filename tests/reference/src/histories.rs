@@ -193,15 +193,19 @@ pub fn file(random: &mut Random) -> Vec<u8> {
 #[cfg(test)]
 mod tests {
     use super::*;
-    use crate::{judge, runner};
+    use crate::counts::Counts;
+    use crate::{aborts, judge, runner};
 
     #[test]
     fn the_judge_prints_what_the_runner_does_up_to_a_65th_commit() {
-        let mut random = Random::new(7);
+        let (mut random, mut counts) = (Random::new(7), Counts::default());
         for _ in 0..100 {
             let file = file(&mut random);
-            assert_eq!(judge::printed(&file), judge::cut(&runner::printed(&file)));
+            let judged = judge::run(&file);
+            assert_eq!(judge::shown(&judged), judge::cut(&runner::printed(&file)));
+            judged.iter().for_each(|(_, history)| counts.choices(history));
         }
+        assert!(aborts::in_files().iter().all(|name| counts.of(name) > 20), "{}", counts.shown());
     }
 
     #[test]

@@ -1,5 +1,6 @@
 //! The judge of docs/RULES.md: what each step comes to, worked out from the history alone, up to a 65th commit. There are no
 //! dependency numbers here: a causal past is asked of the versions that were read and of the handlers' earlier commits.
+use crate::aborts::Choice;
 use crate::lines::{self, Cell, Run};
 use crate::register::Reply;
 use crate::schedule;
@@ -34,12 +35,14 @@ pub struct History {
     open: Vec<Option<Transaction>>,
     /// For each abort 1, how many links led back from the version's commit to the nearest one that overtook a read.
     pub links: Vec<usize>,
+    /// For each abort 1 and 2, which cells it was chosen from.
+    pub choices: Vec<Choice>,
 }
 
 impl History {
     /// The history of a register just opened.
     fn new(cells: usize, handlers: usize) -> Self {
-        History { cells, commits: Vec::new(), open: vec![None; handlers], links: Vec::new() }
+        History { cells, commits: Vec::new(), open: vec![None; handlers], links: Vec::new(), choices: Vec::new() }
     }
 
     /// How many commits are noted.
@@ -91,15 +94,27 @@ impl History {
         marked
     }
 
-    /// Whether a commit wrote a later version of a cell than the one that was read.
-    fn overtakes(&self, place: usize, read: &BTreeMap<usize, usize>) -> bool {
-        read.iter().any(|(&cell, &version)| version < place && self.wrote(place, cell).is_some())
+    /// The cells of which a version's commit, or one in its past, wrote a later version than the one that was read, each with the least
+    /// number of links that lead to such a commit.
+    fn overtaken_by(&self, version: usize, read: &BTreeMap<usize, usize>) -> BTreeMap<usize, usize> {
+        let past = self.past(version);
+        let nearest = |cell: usize, version: usize| {
+            let later = past.iter().filter(|&(&place, _)| version < place && self.wrote(place, cell).is_some());
+            later.map(|(_, &links)| links).min()
+        };
+        read.iter().filter_map(|(&cell, &version)| Some((cell, nearest(cell, version)?))).collect()
     }
 
-    /// The least number of links from a version's commit to one that overtakes what was read, if there is one.
-    fn nearest_overtaking(&self, version: usize, read: &BTreeMap<usize, usize>) -> Option<usize> {
-        let past = self.past(version);
-        past.into_iter().filter(|&(place, _)| self.overtakes(place, read)).map(|(_, links)| links).min()
+    /// The cells of which another version than the one that was read is the last one now.
+    fn stale(&self, read: &BTreeMap<usize, usize>) -> BTreeSet<usize> {
+        read.iter().filter(|&(&cell, &version)| version != self.last_version(cell)).map(|(&cell, _)| cell).collect()
+    }
+
+    /// An abort of the lowest of some cells that were read; of none where there are none.
+    fn abort(&mut self, reason: u32, read: &BTreeMap<usize, usize>, cells: BTreeSet<usize>) -> Option<Reply> {
+        let &lowest = cells.first()?;
+        self.choices.push(Choice::new(reason, self.cells, |cell| (read.contains_key(&cell), cells.contains(&cell))));
+        Some(Reply::abort(reason, lowest))
     }
 
     /// What a handler's step comes to. A 65th commit is not noted.
@@ -114,7 +129,7 @@ impl History {
             (None, _) => Reply::Refused(14),
             (Some(open), 1) => self.attempt(handler, open),
             // What it read and wrote is forgotten: it is in nobody's past, and no commit is counted.
-            (Some(_), 2) => Reply::Abort(5),
+            (Some(_), 2) => Reply::GAVE_UP,
             (Some(open), 32..=63) => self.read(handler, open, code - 32),
             (Some(mut open), _) => {
                 open.written.insert(code - 64, step.value);
@@ -129,7 +144,7 @@ impl History {
         reply
     }
 
-    /// A read: its own value, the version that it has read, or the last one if no commit in that one's past overtakes a read.
+    /// A read: its own value, the version that it has read, or the last one if no commit in that one's past overtakes a cell that was read.
     fn read(&mut self, handler: usize, mut open: Transaction, cell: usize) -> Reply {
         if let Some(&value) = open.written.get(&cell) {
             return self.goes_on(handler, open, Reply::Value(value));
@@ -137,9 +152,10 @@ impl History {
         let last = self.last_version(cell);
         let version = open.read.get(&cell).copied();
         if version.is_none() {
-            if let Some(links) = self.nearest_overtaking(last, &open.read) {
-                self.links.push(links);
-                return Reply::Abort(1);
+            let overtaken = self.overtaken_by(last, &open.read);
+            self.links.extend(overtaken.values().min());
+            if let Some(abort) = self.abort(1, &open.read, overtaken.into_keys().collect()) {
+                return abort;
             }
             open.read.insert(cell, last);
         }
@@ -149,8 +165,8 @@ impl History {
 
     /// A try: every version that was read has to be the last one still.
     fn attempt(&mut self, handler: usize, open: Transaction) -> Reply {
-        if open.read.iter().any(|(&cell, &version)| version != self.last_version(cell)) {
-            return Reply::Abort(2);
+        if let Some(abort) = self.abort(2, &open.read, self.stale(&open.read)) {
+            return abort;
         }
         if self.commits.len() == MOST {
             return Reply::Refused(33);

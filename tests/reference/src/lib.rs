@@ -2,6 +2,7 @@
 //! steps, one by one and as a row, the schedule file and its run, the judge, which works from the history, and the duty sheet, which was
 //! written from the rules alone. The proved programs are compared with them, word for word and line for line, on directed and on random
 //! schedules.
+pub mod aborts;
 pub mod counts;
 pub mod course;
 pub mod directed;

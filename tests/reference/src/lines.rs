@@ -27,7 +27,7 @@ pub struct Run {
     pub left: Vec<Cell>,
 }
 
-/// A reply, with its value, reason or number.
+/// A reply, with its value, its reason and cell, or its number.
 impl fmt::Display for Reply {
     fn fmt(&self, out: &mut fmt::Formatter) -> fmt::Result {
         match self {
@@ -35,7 +35,8 @@ impl fmt::Display for Reply {
             Reply::Value(value) => write!(out, "value {value}"),
             Reply::Unset => write!(out, "unset"),
             Reply::Commit => write!(out, "commit"),
-            Reply::Abort(reason) => write!(out, "abort {reason}"),
+            Reply::Abort { reason, cell: Some(cell) } => write!(out, "abort {reason} cell {cell}"),
+            Reply::Abort { reason, cell: None } => write!(out, "abort {reason}"),
             Reply::Refused(number) => write!(out, "refused {number}"),
         }
     }

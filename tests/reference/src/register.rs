@@ -1,34 +1,42 @@
 //! Opening a register, and its steps, over words as docs/RULES.md lays them out: m cells and n handlers, and X, Y and Z for cells, as
 //! they are called there.
 
-/// What a step comes to: an abort with its reason, a refusal with its number.
+/// What a step comes to: an abort with its reason and the cell that it names, if it names one; a refusal with its number.
 #[derive(Clone, Copy, Debug, PartialEq, Eq)]
 pub enum Reply {
     Ok,
     Value(u32),
     Unset,
     Commit,
-    Abort(u32),
+    Abort { reason: u32, cell: Option<u32> },
     Refused(u32),
 }
 
 impl Reply {
-    /// The reply's kind, and its value, reason or number: 0 where there is none.
-    pub fn numbers(self) -> (u32, u32) {
+    /// The abort that a give up comes to. It names no cell.
+    pub const GAVE_UP: Reply = Reply::Abort { reason: 5, cell: None };
+
+    /// An abort that names a cell.
+    pub fn abort(reason: u32, cell: usize) -> Reply {
+        Reply::Abort { reason, cell: Some(cell as u32) }
+    }
+
+    /// The reply's kind, its value, reason or number, and its cell: 0 where there is none.
+    pub fn numbers(self) -> [u32; 3] {
         match self {
-            Reply::Ok => (0, 0),
-            Reply::Value(value) => (1, value),
-            Reply::Commit => (2, 0),
-            Reply::Abort(reason) => (3, reason),
-            Reply::Refused(number) => (4, number),
-            Reply::Unset => (5, 0),
+            Reply::Ok => [0, 0, 0],
+            Reply::Value(value) => [1, value, 0],
+            Reply::Commit => [2, 0, 0],
+            Reply::Abort { reason, cell } => [3, reason, cell.unwrap_or(0)],
+            Reply::Refused(number) => [4, number, 0],
+            Reply::Unset => [5, 0, 0],
         }
     }
 
-    /// The reply in one number, as the functions for C give it: kind · 2^32 + value, reason or number.
+    /// The reply in one number, as the functions for C give it: kind · 2^32, and the value or number or, of an abort, cell · 65,536 + reason.
     pub fn packed(self) -> u64 {
-        let (kind, detail) = self.numbers();
-        u64::from(kind) << 32 | u64::from(detail)
+        let [kind, number, cell] = self.numbers().map(u64::from);
+        kind << 32 | cell << 16 | number
     }
 }
 
@@ -189,7 +197,8 @@ impl Open<'_> {
         }
     }
 
-    /// Read: the copy of a cell that is in a set, or else a first read, which may abort. A cell with number 0 is unset, not 0.
+    /// Read: the copy of a cell that is in a set, or else a first read, which may abort and then names the lowest cell that was read too
+    /// early. A cell with number 0 is unset, not 0.
     fn read(&mut self, x: usize) -> Reply {
         let m = self.m;
         if self.is_written(x) {
@@ -200,11 +209,9 @@ impl Open<'_> {
         }
         self.block[1] |= 1 << x;
         self.block[3 + m + x] = self.own_number(x);
-        for y in 0..m {
-            if self.is_read(y) && self.block[3 + m + y] < self.cell(x)[1 + y] {
-                self.end();
-                return Reply::Abort(1);
-            }
+        if let Some(y) = (0..m).find(|&y| self.is_read(y) && self.block[3 + m + y] < self.cell(x)[1 + y]) {
+            self.end();
+            return Reply::abort(1, y);
         }
         for y in 0..m {
             if !self.is_read(y) {
@@ -222,16 +229,17 @@ impl Open<'_> {
         Reply::Ok
     }
 
-    /// Try: abort 2 where a read cell has another number now, abort 3 where a written one's number is spent, or else a commit.
+    /// Try: abort 2 where a read cell has another number now, abort 3 where a written one's number is spent, or else a commit. Each abort
+    /// names the lowest such cell.
     fn attempt(&mut self) -> Reply {
         let m = self.m;
-        if (0..m).any(|z| self.is_read(z) && self.block[3 + m + z] != self.own_number(z)) {
+        if let Some(z) = (0..m).find(|&z| self.is_read(z) && self.block[3 + m + z] != self.own_number(z)) {
             self.end();
-            return Reply::Abort(2);
+            return Reply::abort(2, z);
         }
-        if (0..m).any(|z| self.is_written(z) && self.own_number(z) == 65_535) {
+        if let Some(z) = (0..m).find(|&z| self.is_written(z) && self.own_number(z) == 65_535) {
             self.end();
-            return Reply::Abort(3);
+            return Reply::abort(3, z);
         }
         for x in 0..m {
             if self.is_written(x) {
@@ -253,7 +261,7 @@ impl Open<'_> {
     /// Give up: the transaction is ended, whatever it read and wrote; cells and the handler's numbers stay.
     fn give_up(&mut self) -> Reply {
         self.end();
-        Reply::Abort(5)
+        Reply::GAVE_UP
     }
 }
 

@@ -32,6 +32,38 @@ pub fn value(random: &mut Random) -> u32 {
     }
 }
 
+/// Gives every transaction the cells' own numbers, so that it has a chance to commit.
+fn settle(words: &mut [u32]) {
+    let m = words[0] as usize;
+    let (cells, blocks) = words[2..].split_at_mut(m * (m + 1));
+    for block in blocks.chunks_mut(3 + 3 * m) {
+        for cell in 0..m {
+            block[3 + m + cell] = cells[cell * (m + 1) + 1 + cell];
+        }
+    }
+}
+
+/// The same, and no cell depends on another; but for one to three cells, which have been written since, are spent, or have later versions on
+/// which all others depend. So an abort has few cells to choose from, and a high one is named as often as a low one, the highest not seldom.
+fn calm(random: &mut Random, words: &mut [u32]) {
+    let m = words[0] as usize;
+    let place = |x: usize, y: usize| 2 + x * (m + 1) + 1 + y;
+    for (x, y) in (0..m).flat_map(|x| (0..m).map(move |y| (x, y))) {
+        words[place(x, y)] = if x == y { random.below(4) as u32 } else { 0 };
+    }
+    let cell = |random: &mut Random| if random.once_in(4) { m - 1 } else { random.place(m) };
+    let chosen: Vec<(usize, u64)> = (0..random.within(1, 3)).map(|_| (cell(random), random.below(3))).collect();
+    chosen.iter().filter(|(_, how)| *how == 0).for_each(|&(cell, _)| words[place(cell, cell)] = 65_535);
+    settle(words);
+    for &(cell, how) in &chosen {
+        match how {
+            0 => (),
+            1 => words[place(cell, cell)] ^= 1,
+            _ => (0..m).filter(|&x| x != cell).for_each(|x| words[place(x, cell)] = 65_535),
+        }
+    }
+}
+
 /// Words of a well-formed register of m cells and n handlers, reachable or not, with words behind it.
 pub fn well_formed(random: &mut Random, m: u32, n: u32) -> Vec<u32> {
     let mut words = vec![m, n];
@@ -46,14 +78,10 @@ pub fn well_formed(random: &mut Random, m: u32, n: u32) -> Vec<u32> {
         words.extend((0..2 * m).map(|_| number(random)).collect::<Vec<_>>());
         words.extend((0..m).map(|_| value(random)).collect::<Vec<_>>());
     }
-    // Where a transaction is to have a chance to commit, its numbers are the cells' own.
-    if random.once_in(2) {
-        let (m, long) = (m as usize, 3 + 3 * m as usize);
-        for handler in 0..n as usize {
-            for cell in 0..m {
-                words[2 + m * (m + 1) + handler * long + 3 + m + cell] = words[2 + cell * (m + 1) + 1 + cell];
-            }
-        }
+    match random.below(3) {
+        0 => settle(&mut words),
+        1 => calm(random, &mut words),
+        _ => (),
     }
     words.extend((0..random.below(5)).map(|_| 0xdead_beef));
     words

@@ -46,7 +46,7 @@ mod tests {
     #[test]
     fn the_published_listing() {
         let expected = "handlers 2 cells 2\n0 0 0 ok\n1 0 32 unset\n2 1 0 ok\n3 1 64 ok\n4 1 65 ok\n5 1 1 commit\n\
-                        6 0 33 abort 1\ncell 0 value 5 number 1\ncell 1 value 7 number 1\n";
+                        6 0 33 abort 1 cell 0\ncell 0 value 5 number 1\ncell 1 value 7 number 1\n";
         assert_eq!(of(LISTING), expected);
     }
 
@@ -96,7 +96,7 @@ mod tests {
 
     #[test]
     fn a_stale_read_is_abort_2_and_values_go_up_to_the_largest() {
-        let expected = ["0 0 ok", "0 32 unset", "1 0 ok", "1 64 ok", "1 32 value 4294967295", "1 1 commit", "0 1 abort 2"];
+        let expected = ["0 0 ok", "0 32 unset", "1 0 ok", "1 64 ok", "1 32 value 4294967295", "1 1 commit", "0 1 abort 2 cell 0"];
         let text = "02 01 000E 0003 0011 0008 0019 0007 00 20 01 00 40 FFFFFFFF 20 01 00 00 01 01 01 01 00";
         assert_eq!(replies(text), expected);
     }

@@ -26,10 +26,10 @@ fn column(line: &Line) -> Option<usize> {
     match line.reply {
         Reply::Ok if line.code == Some(BEGIN.code) => Some(0),
         Reply::Commit => Some(1),
-        Reply::Abort(1) => Some(2),
-        Reply::Abort(2) => Some(3),
-        Reply::Abort(3) => Some(4),
-        Reply::Abort(5) => Some(5),
+        Reply::Abort { reason: 1, .. } => Some(2),
+        Reply::Abort { reason: 2, .. } => Some(3),
+        Reply::Abort { reason: 3, .. } => Some(4),
+        Reply::Abort { reason: 5, .. } => Some(5),
         _ => None,
     }
 }
@@ -124,8 +124,11 @@ mod tests {
         assert_eq!((of(Some(0), Reply::Ok), of(Some(64), Reply::Ok), of(Some(95), Reply::Ok)), (Some(0), None, None));
         assert_eq!((of(Some(1), Reply::Commit), of(Some(32), Reply::Value(0))), (Some(1), None));
         // No file reaches abort 3, so that it is asked for here alone; there is no abort 4.
-        let aborts = [(32, 1), (1, 2), (1, 3), (1, 4), (2, 5)].map(|(code, reason)| of(Some(code), Reply::Abort(reason)));
-        assert_eq!(aborts, [Some(2), Some(3), Some(4), None, Some(5)]);
+        // Whichever cell is named, or none: the reason alone is counted.
+        for cell in [None, Some(0), Some(1), Some(31)] {
+            let aborted = |(code, reason)| of(Some(code), Reply::Abort { reason, cell });
+            assert_eq!([(32, 1), (1, 2), (1, 3), (1, 4), (2, 5)].map(aborted), [Some(2), Some(3), Some(4), None, Some(5)]);
+        }
         assert_eq!([Some(0), Some(1), Some(2), None].map(|code| of(code, Reply::Refused(1))), [None; 4]);
     }
 

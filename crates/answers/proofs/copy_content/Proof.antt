@@ -5,8 +5,9 @@ use native.Mathlib.Omega.{arith}
 use mathlib.Core.Path.{_≡_, sym, ap, _∙_}
 use lib.ListN.{getD}
 use Rattle.rules.specs.steps.Replies.{value}
+use Rattle.rules.proofs.steps.Steps.{shows-nothing, shows-value}
 use Rattle.ledger.specs.Entries.{entryIn}
-use Rattle.ledger.proofs.Deeds.{shows-nothing, shows-value, shown-written, shown-read}
+use Rattle.ledger.proofs.Deeds.{shown-written, shown-read}
 use Rattle.answers.proofs.copy_content.Statement.{statement}
 use Rattle.answers.proofs.copy_content.Tie as tie
 

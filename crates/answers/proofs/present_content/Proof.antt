@@ -4,9 +4,9 @@ use native.Mathlib.Omega.{arith}
 use mathlib.Core.Path.{sym, ap, _∙_}
 use lib.ListN.{getD}
 use Rattle.rules.specs.steps.Replies.{value}
+use Rattle.rules.proofs.steps.Steps.{shows-nothing, shows-value}
 use Rattle.layout.specs.Places.{copyAt}
 use Rattle.ledger.specs.Entries.{entryIn}
-use Rattle.ledger.proofs.Deeds.{shows-nothing, shows-value}
 use Rattle.ledger.proofs.Versions.{versionAt, present-shows}
 use Rattle.answers.proofs.present_content.Statement.{statement}
 use Rattle.answers.proofs.present_content.Tie as tie

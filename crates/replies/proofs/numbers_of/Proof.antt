@@ -14,10 +14,10 @@ numbers-of-spec =
     (λ c κs. search needs)
     (λ c. search needs)
     (λ c κs. search needs)
-    (λ c. record { replied = c .outcome-numbers .ensures ∙ ap (λ a. replyNumbers (replyIs a)) (sym (c .before .before .answer .given .1)); left = refl })
+    (λ c. record { replied = c .outcome-numbers .ensures .replied ∙ ap (λ a. replyNumbers (replyIs a)) (sym (c .before .before .answer .given .1)); left = refl })
     (λ c. record {
       replied =
-          ap (λ k. record { kind = 4; detail = k }) (c .refusal-number .ensures .replied)
+          ap (λ k. record { kind = 4; detail = k; cell = 0 }) (c .refusal-number .ensures .replied)
           ∙ ap (λ a. replyNumbers (replyIs a)) (sym (c .before .before .answer2 .given .1));
       left = refl;
     }))

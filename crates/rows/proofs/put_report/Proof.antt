@@ -1,4 +1,4 @@
--- `rows::put_report` meets its contract: four words, one behind the other.
+-- `rows::put_report` meets its contract: five words, one behind the other.
 use native.Mathlib.Omega.{arith}
 use lib.ListN.{length-set}
 use borrow.Author.Needs.{needs}
@@ -15,6 +15,9 @@ put-report-spec =
     (λ c. search needs)
     (λ c. search needs)
     (λ c. search needs)
+    (λ c. search needs)
+    (λ c. search needs)
+    (λ c. simp length-set (omega arith))
     (λ c. search needs)
     (λ c. search needs)
     (λ c. simp length-set (omega arith))

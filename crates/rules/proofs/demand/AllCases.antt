@@ -9,7 +9,7 @@ use Rattle.rules.specs.steps.Codes.{plainSheet}
 use Rattle.rules.specs.steps.Replies.{Numbers, replyNumbers}
 use Rattle.rules.specs.steps.Register.{numbersUnder, Register, withHandler, idle, blank, fresh}
 use Rattle.rules.specs.steps.Checks.{firstHit, stepChecks}
-use Rattle.rules.specs.steps.Figure.{joined, taken, wrote, versionShows, shown, stamped, stored, begun, isTorn, isOvertaken, isSpent}
+use Rattle.rules.specs.steps.Figure.{joined, taken, wrote, versionShows, shown, stamped, stored, begun, tornCell, overtakenCell, spentCell}
 use Rattle.rules.specs.steps.Figure.{aborting, committing, unlessAborted, readChecks, tryChecks, firstRead, reading, trying, step}
 use Rattle.rules.specs.steps.Turn.{stepRefusal, turned, turn}
 use Rattle.rules.specs.demand.Cases.{CaseStep, CaseStart, opened, given, CaseEnd, register, loose, Case, cases}
@@ -68,6 +68,6 @@ pub on-tables : map made (rowsOf cases) ≡ map said (rowsOf cases)
 unfolding made said play cellsIn entries rowOf rowsOf cases
     put orElse lowest someBelow plainSheet
     withHandler idle blank fresh firstHit stepChecks
-    joined taken wrote versionShows shown stamped stored begun isTorn isOvertaken isSpent aborting committing
+    joined taken wrote versionShows shown stamped stored begun tornCell overtakenCell spentCell aborting committing
     unlessAborted readChecks tryChecks firstRead reading trying step stepRefusal turned turn
 on-tables = refl

@@ -10,12 +10,12 @@ use Rattle.rules.specs.steps.Codes.{read, plainSheet}
 use Rattle.rules.specs.steps.Replies.{Outcome, Reply}
 use Rattle.rules.specs.steps.Register.{Setting, numbersUnder, withHandler, idle, blank, fresh}
 use Rattle.rules.specs.steps.Checks.{firstHit, stepChecks}
-use Rattle.rules.specs.steps.Figure.{joined, taken, wrote, versionShows, shown, stamped, stored, begun, isTorn, isOvertaken, isSpent, aborting}
+use Rattle.rules.specs.steps.Figure.{joined, taken, wrote, versionShows, shown, stamped, stored, begun, tornCell, overtakenCell, spentCell, aborting}
 use Rattle.rules.specs.steps.Figure.{committing, unlessAborted, readChecks, tryChecks, firstRead, reading, trying, step}
 use Rattle.rules.specs.steps.Turn.{stepRefusal, turned, turn}
 use Rattle.rules.specs.history.History.{Commit, History, someLook, hasRead, hasWritten, writerAmong, writer, noHistory, doing}
 use Rattle.rules.specs.history.History.{readDeed, noteOk, noteShown, ended, noteCommit, noteAbort, note, noteReply}
-use Rattle.rules.specs.history.Past.{hasReadFrom, inPast, upTo, later, outdated, tears}
+use Rattle.rules.specs.history.Past.{hasReadFrom, inPast, upTo, later, outdated, tearsAt}
 use Rattle.rules.specs.history.Replay.{after, replay}
 use Rattle.rules.specs.demand.Demand.{Ask, State, start, moved, run, reportedTo}
 use Rattle.rules.specs.demand.Judge.{copied, orAborted, answerRead, answer}
@@ -47,7 +47,7 @@ writes i x v = record { handler = i; code = 64 + x; value = v }
 -- The register and the history after these steps; to unfold it is to compute them.
 unfoldable pub reached : List (Ask ℕ) → State ℕ
 unfolding run start moved fresh blank idle withHandler put orElse lowest someBelow turn turned stepRefusal plainSheet
-    stepChecks firstHit step begun wrote joined taken versionShows shown stamped stored isTorn isOvertaken isSpent aborting committing
+    stepChecks firstHit step begun wrote joined taken versionShows shown stamped stored tornCell overtakenCell spentCell aborting committing
     unlessAborted readChecks tryChecks firstRead reading trying noHistory noteReply note noteOk noteShown noteCommit noteAbort
     doing ended readDeed someLook hasRead hasWritten writerAmong writer
 reached steps = run two 4 (start two) steps
@@ -62,7 +62,7 @@ replyTo steps x = turn two 4 true (reached steps .register) 0 (32 + x) 0 .reply
 
 -- The judge's answer to it, from the history alone; to unfold it is to compute it.
 unfoldable pub answerTo : List (Ask ℕ) → ℕ → Outcome ℕ
-unfolding answer answerRead orAborted copied replay after tears outdated later upTo inPast hasReadFrom
+unfolding answer answerRead orAborted copied replay after tearsAt outdated later upTo inPast hasReadFrom
 answerTo steps x = answer two (reached steps .history) 0 (read x)
 
 -- After these steps handler 0's transaction is open, and has neither read nor written the cell x.

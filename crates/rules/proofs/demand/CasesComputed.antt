@@ -45,7 +45,7 @@ unfolding reached k8
 k8-numbers = (refl, refl)
 
 -- Handler 0 is answered abort 1.
-pub k8-answered : Answered k8 1 (aborted torn)
+pub k8-answered : Answered k8 1 (aborted (torn 0))
 unfolding isFirst reached answerTo k8
 k8-answered = record { first = refl; reply = refl; judged = refl }
 
@@ -69,7 +69,7 @@ unfolding reached k9
 k9-commits = refl
 
 -- Handler 0 is answered abort 1.
-pub k9-answered : Answered k9 1 (aborted torn)
+pub k9-answered : Answered k9 1 (aborted (torn 0))
 unfolding isFirst reached answerTo k9
 k9-answered = record { first = refl; reply = refl; judged = refl }
 
@@ -101,7 +101,7 @@ unfolding reached k10-read
 k10-open = refl
 
 -- and its try is answered abort 2.
-pub k10-overtaken : turn two 4 true (reached k10-read .register) 0 1 0 .reply ≡ reportedTo 0 1 (aborted overtaken)
+pub k10-overtaken : turn two 4 true (reached k10-read .register) 0 1 0 .reply ≡ reportedTo 0 1 (aborted (overtaken 0))
 unfolding reached k10-read
 k10-overtaken = refl
 
@@ -135,7 +135,7 @@ unfoldable pub k11 : List (Ask ℕ)
 k11 = begins 1 ∷ writes 1 1 3 ∷ tries 1 ∷ begins 0 ∷ reads 0 1 ∷ begins 2 ∷ writes 2 0 4 ∷ writes 2 1 8 ∷ tries 2 ∷ []
 
 -- Handler 0 is answered abort 1.
-pub k11-answered : Answered k11 0 (aborted torn)
+pub k11-answered : Answered k11 0 (aborted (torn 1))
 unfolding isFirst reached answerTo k11
 k11-answered = record { first = refl; reply = refl; judged = refl }
 
@@ -178,7 +178,7 @@ unfolding reached readOnly upTo inPast hasReadFrom
 readOnly-carries = refl
 
 -- Handler 0, which reads cell 1, is answered abort 1.
-pub readOnly-answered : Answered readOnly 1 (aborted torn)
+pub readOnly-answered : Answered readOnly 1 (aborted (torn 0))
 unfolding isFirst reached answerTo readOnly
 readOnly-answered = record { first = refl; reply = refl; judged = refl }
 
@@ -189,7 +189,7 @@ unfolding overtakes
 pastOfPast = overtakes ++ (begins 2 ∷ reads 2 0 ∷ writes 2 1 6 ∷ tries 2 ∷ begins 3 ∷ reads 3 1 ∷ writes 3 1 7 ∷ tries 3 ∷ [])
 
 -- Handler 0, which reads cell 1, is answered abort 1.
-pub pastOfPast-answered : Answered pastOfPast 1 (aborted torn)
+pub pastOfPast-answered : Answered pastOfPast 1 (aborted (torn 0))
 unfolding isFirst reached answerTo pastOfPast
 pastOfPast-answered = record { first = refl; reply = refl; judged = refl }
 

@@ -8,7 +8,7 @@ use mathlib.Core.List.{List, [], _∷_}
 use mathlib.Core.Logic.{_↔_}
 use lib.Dec.{ltb}
 use borrow.Author.Tests.{ltb-true, not-true}
-use Rattle.rules.specs.steps.Tables.{put}
+use Rattle.rules.specs.steps.Tables.{put, LowestOf}
 use Rattle.rules.specs.steps.Codes.{known, read, plainSheet}
 use Rattle.rules.specs.steps.Replies.{torn, overtaken, Content, unset, value, shows, aborted}
 use Rattle.rules.specs.steps.Turn.{turn}
@@ -21,6 +21,7 @@ use Rattle.rules.proofs.steps.Tables.{and-left, and-right, or-left, or-
 use Rattle.rules.proofs.steps.Properties.{shows-no-abort}
 use Rattle.rules.proofs.demand.ExactAborts.{outcomeIn}
 use Rattle.rules.proofs.demand.ThirdDemand.{third-demand, history-tells}
+use Rattle.rules.proofs.demand.TornAtAll.{read-torn-at-all}
 use Rattle.rules.proofs.demand.CaseHistories.{two, reached, commitsAfter, replyTo, isFirst, Answered}
 use Rattle.rules.proofs.demand.CasesComputed.{k8, k8-answered, k9, k9-answered, k10, k10-answered, k10-read, k10-open}
 use Rattle.rules.proofs.demand.CasesComputed.{k10-overtaken, k10-tried, k10-commits, k10-aborted, k10-history, k11}
@@ -28,8 +29,8 @@ use Rattle.rules.proofs.demand.CasesComputed.{k11-answered, k11-first, 
 use Rattle.rules.proofs.demand.CasesComputed.{pastOfPast, pastOfPast-answered, abortedRead, abortedRead-answered}
 use Rattle.rules.proofs.demand.CasesComputed.{givenUp, givenUp-answered, blind, blind-answered}
 
--- The writer of x, or a commit in its past, wrote a later version than one that handler 0 has read by then.
-abbrev pub TearsAfter : List (Ask ℕ) → ℕ → Type 0
+-- The writer of x, or a commit in its past, wrote a later version of a cell than handler 0 has read by then.
+abbrev pub TearsAfter : List (Ask ℕ) → ℕ → ℕ → Type 0
 TearsAfter steps x = Tears (commitsAfter steps) (reached steps .history .now 0) (writer (commitsAfter steps) x)
 
 -- ── The demand on them ────────────────────────────────────────────────
@@ -71,67 +72,68 @@ first-read steps x e = record {
     untouched : wasRead || wasWritten ≡ false
     untouched = not-true (wasRead || wasWritten) (and-right (h .opened 0) (not (wasRead || wasWritten)) isOpen)
 
--- The demand's third part, on such a read.
-demanded : (steps : List (Ask ℕ)) (x : ℕ) → isFirst steps x ≡ true
-    → (replyTo steps x ≡ reportedTo 0 (32 + x) (aborted torn)) ↔ TearsAfter steps x
-demanded steps x e = unfold reached in (third-demand ℕ two 4 steps .tornExactly 0 (32 + x) x 0 (first-read steps x e))
+-- A read that is answered abort 1 tears, at the cell named and at none below it: the demand's third part, on such a read.
+pub answered-torn : (steps : List (Ask ℕ)) (x y : ℕ) → Answered steps x (aborted (torn y)) → LowestOf (TearsAfter steps x) y
+answered-torn steps x y a = demanded .0 (a .reply)
+  where
+    demanded : (replyTo steps x ≡ reportedTo 0 (32 + x) (aborted (torn y))) ↔ LowestOf (TearsAfter steps x) y
+    demanded = unfold reached in (third-demand ℕ two 4 steps .tornExactly 0 (32 + x) x y 0 (first-read steps x (a .first)))
 
--- A read that is answered abort 1 tears,
-pub answered-torn : (steps : List (Ask ℕ)) (x : ℕ) → Answered steps x (aborted torn) → TearsAfter steps x
-answered-torn steps x a = demanded steps x (a .first) .0 (a .reply)
-
--- and one that shows something does not.
-pub answered-shown : (steps : List (Ask ℕ)) (x : ℕ) (v : Content ℕ) → Answered steps x (shows v) → TearsAfter steps x → ⊥
-answered-shown steps x v a tears =
-    shows-no-abort v torn (ap outcomeIn (sym (a .reply) ∙ demanded steps x (a .first) .1 tears))
+-- One that shows something tears nowhere.
+pub answered-shown : (steps : List (Ask ℕ)) (x : ℕ) (v : Content ℕ) → Answered steps x (shows v) → (y : ℕ) → TearsAfter steps x y → ⊥
+answered-shown steps x v a y tears =
+    let abort = demanded .1 (y, tears) in shows-no-abort v (torn (abort .0)) (ap outcomeIn (sym (a .reply) ∙ abort .1))
+  where
+    demanded : ((z : ℕ) × (replyTo steps x ≡ reportedTo 0 (32 + x) (aborted (torn z)))) ↔ ((z : ℕ) × TearsAfter steps x z)
+    demanded = unfold reached in (read-torn-at-all two 4 _ _ (third-demand ℕ two 4 steps) 0 (32 + x) x 0 (first-read steps x (a .first)))
 
 -- ── The cases ─────────────────────────────────────────────────────────
 
 -- K8: the writer of cell 1 drew on a commit that wrote cell 0 anew.
-pub k8-tears : TearsAfter k8 1
-k8-tears = answered-torn k8 1 k8-answered
+pub k8-tears : LowestOf (TearsAfter k8 1) 0
+k8-tears = answered-torn k8 1 0 k8-answered
 
 -- K9: an earlier commit of the same handler wrote cell 0 anew.
-pub k9-tears : TearsAfter k9 1
-k9-tears = answered-torn k9 1 k9-answered
+pub k9-tears : LowestOf (TearsAfter k9 1) 0
+k9-tears = answered-torn k9 1 0 k9-answered
 
 -- K10: cell 0 was written anew by nobody in the writer's past.
-pub k10-holds : TearsAfter k10 1 → ⊥
+pub k10-holds : (y : ℕ) → TearsAfter k10 1 y → ⊥
 k10-holds = answered-shown k10 1 (value 6) k10-answered
 
 -- K11: the writer of cell 0 itself wrote cell 1 anew.
-pub k11-tears : TearsAfter k11 0
-k11-tears = answered-torn k11 0 k11-answered
+pub k11-tears : LowestOf (TearsAfter k11 0) 1
+k11-tears = answered-torn k11 0 1 k11-answered
 
 -- A commit that wrote nothing carries its past to the next commit of its handler.
-pub readOnly-tears : TearsAfter readOnly 1
-readOnly-tears = answered-torn readOnly 1 readOnly-answered
+pub readOnly-tears : LowestOf (TearsAfter readOnly 1) 0
+readOnly-tears = answered-torn readOnly 1 0 readOnly-answered
 
 -- A past of a past is a past.
-pub pastOfPast-tears : TearsAfter pastOfPast 1
-pastOfPast-tears = answered-torn pastOfPast 1 pastOfPast-answered
+pub pastOfPast-tears : LowestOf (TearsAfter pastOfPast 1) 0
+pastOfPast-tears = answered-torn pastOfPast 1 0 pastOfPast-answered
 
 -- An aborted transaction is in nobody's past.
-pub abortedRead-holds : TearsAfter abortedRead 1 → ⊥
+pub abortedRead-holds : (y : ℕ) → TearsAfter abortedRead 1 y → ⊥
 abortedRead-holds = answered-shown abortedRead 1 (value 6) abortedRead-answered
 
 -- So is one that gave up.
-pub givenUp-holds : TearsAfter givenUp 1 → ⊥
+pub givenUp-holds : (y : ℕ) → TearsAfter givenUp 1 y → ⊥
 givenUp-holds = answered-shown givenUp 1 (value 6) givenUp-answered
 
 -- A blind overwrite hides a past.
-pub blind-holds : TearsAfter blind 1 → ⊥
+pub blind-holds : (y : ℕ) → TearsAfter blind 1 y → ⊥
 blind-holds = answered-shown blind 1 (value 7) blind-answered
 
 -- ── K10, tried ────────────────────────────────────────────────────────
 
--- K10's try is answered abort 2, so that a version read is no longer the present one.
-pub k10-passed : Overtaken (commitsAfter k10-read) (reached k10-read .history .now 0)
+-- K10's try is answered abort 2 and cell 0, so that the version read of cell 0 is no longer the present one.
+pub k10-passed : LowestOf (Overtaken (commitsAfter k10-read) (reached k10-read .history .now 0)) 0
 k10-passed = told .0 k10-overtaken
   where
-    told : (turn two 4 true (reached k10-read .register) 0 1 0 .reply ≡ reportedTo 0 1 (aborted overtaken))
-        ↔ Overtaken (commitsAfter k10-read) (reached k10-read .history .now 0)
-    told = unfold reached plainSheet in (history-tells ℕ two 4 k10-read .overtakenExactly 0 1 0 (omega arith) refl k10-open)
+    told : (turn two 4 true (reached k10-read .register) 0 1 0 .reply ≡ reportedTo 0 1 (aborted (overtaken 0)))
+        ↔ LowestOf (Overtaken (commitsAfter k10-read) (reached k10-read .history .now 0)) 0
+    told = unfold reached plainSheet in (history-tells ℕ two 4 k10-read .overtakenExactly 0 1 0 0 (omega arith) refl k10-open)
 
 -- What the aborted transaction had read is what its past alone leaves,
 pub k10-from-past : FromPast (firstOf 2 k10-commits) 0 (k10-aborted .deeds)

@@ -4,19 +4,20 @@ use native.Mathlib.Omega.{arith}
 use mathlib.Core.Path.{_≡_, refl, sym, ap, _∙_}
 use mathlib.Core.Bool.{Bool, true, false, _||_, or-true}
 use mathlib.Core.List.{List, [], _∷_}
+use mathlib.Core.Option.{none}
 use lib.ListN.{length}
 use lib.Dec.{eqb}
 use borrow.Author.Tests.{eqb-true, not-false}
 use Rattle.rules.specs.steps.Replies.{value}
 use Rattle.rules.specs.steps.Register.{Setting, Handler, Register, withHandler, idle}
-use Rattle.rules.specs.steps.Figure.{cellShows, shown, stamped, stored, isOvertaken, aborting, committing}
+use Rattle.rules.specs.steps.Figure.{cellShows, shown, stamped, stored, overtakenCell, aborting, committing}
 use Rattle.rules.specs.history.History.{Deed, Commit, Abort, History, hasRead, hasWritten, placeAfter}
 use Rattle.rules.specs.history.History.{everyCommit, writer}
 use Rattle.rules.specs.history.History.{transaction, ended, noteCommit, noteAbort}
 use Rattle.rules.specs.history.Past.{Stands, last, older, inPast, upTo, lastOf}
 use Rattle.rules.specs.history.Replay.{replay, Finds}
 use Rattle.rules.specs.demand.Judge.{versionCount, numberAmong}
-use Rattle.rules.proofs.steps.Tables.{by, some-false, put-three}
+use Rattle.rules.proofs.steps.Tables.{by, lowest-none, put-three}
 use Rattle.rules.proofs.steps.Steps.{stored-shows}
 use Rattle.rules.proofs.history.Pasts.{past-none, past-other, lastOf-stood, lastOf-new, lastOf-other}
 use Rattle.rules.proofs.history.Versions.{number-skip, number-every, number-new, number-old, writer-new, writer-old, writer-stood}
@@ -91,8 +92,8 @@ module _ {W : Type 0} (S : Setting W) where
         (λ e. rw (c .writtenSet y ∙ e, e) (c .transaction refl y)))
 
     -- What it read is what the cells hold.
-    reads-hold : isOvertaken S r (r .handlers i) ≡ false → Holds (h .now i) (replay (h .commits) everyCommit)
-    unfolding isOvertaken
+    reads-hold : overtakenCell S r (r .handlers i) ≡ none → Holds (h .now i) (replay (h .commits) everyCommit)
+    unfolding overtakenCell
     reads-hold current y source v sooner q =
         same-value (h .commits) everyCommit (upTo (h .commits) source) y same-number ∙ saw .value
       where
@@ -105,7 +106,7 @@ module _ {W : Type 0} (S : Setting W) where
         present : r .handlers i .transaction y ≡ r .cells y .numbers y
         present = eqb-true (r .handlers i .transaction y) (r .cells y .numbers y)
             (not-false (eqb (r .handlers i .transaction y) (r .cells y .numbers y))
-            (rw (c .readSet y ∙ has) at (some-false (S .cellCount) _ current y (saw .inside))))
+            (rw (c .readSet y ∙ has) at (lowest-none (S .cellCount) _ current y (saw .inside))))
 
         same-number : numberAmong (h .commits) everyCommit y ≡ numberAmong (h .commits) (upTo (h .commits) source) y
         same-number = omega (
@@ -118,11 +119,11 @@ module _ {W : Type 0} (S : Setting W) where
         )
 
     -- Done after all earlier commits, it finds what was shown.
-    pub check-finds : isOvertaken S r (r .handlers i) ≡ false → Finds (h .now i) (replay (h .commits) everyCommit)
+    pub check-finds : overtakenCell S r (r .handlers i) ≡ none → Finds (h .now i) (replay (h .commits) everyCommit)
     check-finds current = finds-all (h .now i) (replay (h .commits) everyCommit) (reads-hold current) (c .sound)
 
     -- What it wrote is what it leaves.
-    pub check-leaves : isOvertaken S r (r .handlers i) ≡ false → (x : ℕ) → hasWritten (h .now i) x ≡ true
+    pub check-leaves : overtakenCell S r (r .handlers i) ≡ none → (x : ℕ) → hasWritten (h .now i) x ≡ true
         → value (r .handlers i .copies x) ≡ replay (transaction h i ∷ h .commits) everyCommit x
     unfolding shown
     check-leaves current x e = rw (c .writtenSet x ∙ e) at (c .copies x accessed)
@@ -180,7 +181,7 @@ module _ {W : Type 0} (S : Setting W) where
           ∙ sym (number-old (transaction h i) (h .commits) (writer (h .commits) x) y (writer-stood (h .commits) x))))
 
       -- What the cells show after the commit: what it wrote, or what stood.
-      commit-values : isOvertaken S r (r .handlers i) ≡ false → (x : ℕ)
+      commit-values : overtakenCell S r (r .handlers i) ≡ none → (x : ℕ)
           → cellShows x (stored r (r .handlers i) x) ≡ replay grown everyCommit x
       unfolding stored
       commit-values current x = by (hasWritten (h .now i) x)
@@ -190,7 +191,7 @@ module _ {W : Type 0} (S : Setting W) where
           ∙ ap (λ table. table x) (sym (replay-every (transaction h i) (h .commits)))))
 
       -- A commit that is not overtaken keeps the invariant.
-      pub commit-invariant : isOvertaken S r (r .handlers i) ≡ false
+      pub commit-invariant : overtakenCell S r (r .handlers i) ≡ none
           → Invariant S (committing S r i (r .handlers i)) (noteCommit h i)
       unfolding committing withHandler noteCommit ended
       commit-invariant current = record {

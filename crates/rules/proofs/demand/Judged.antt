@@ -2,16 +2,16 @@
 use Prim.Native.Nat.{ℕ}
 use mathlib.Core.Path.{_≡_, refl, sym, ap, _∙_, fun-ext, subst}
 use mathlib.Core.Bool.{true, false, _||_}
-use Rattle.rules.specs.steps.Tables.{someBelow}
+use Rattle.rules.specs.steps.Tables.{lowest}
 use Rattle.rules.specs.steps.Codes.{Step, begin, try, giveUp, read, write}
 use Rattle.rules.specs.steps.Replies.{shows, Refusal, Reply}
 use Rattle.rules.specs.steps.Register.{Setting, Register}
 use Rattle.rules.specs.steps.Checks.{firstHit}
 use Rattle.rules.specs.steps.Given.{Given, phaseFor, Free}
-use Rattle.rules.specs.steps.Figure.{isOvertaken, isSpent, step}
+use Rattle.rules.specs.steps.Figure.{overtakenCell, spentCell, step}
 use Rattle.rules.specs.steps.Turn.{asked, turn, takenTurn}
 use Rattle.rules.specs.history.History.{History, hasRead, hasWritten, writer}
-use Rattle.rules.specs.history.Past.{inPast, tears}
+use Rattle.rules.specs.history.Past.{inPast, tearsAt}
 use Rattle.rules.specs.demand.Demand.{reportedTo}
 use Rattle.rules.specs.demand.Judge.{stale, full, orAborted, answerRead, answerTry, answer, askedByHistory, orAnswered, judgement}
 use Rattle.rules.proofs.steps.Tables.{or-left}
@@ -48,14 +48,14 @@ module _ {W : Type 0} (S : Setting W) (r : Register W) (h : History W) (g : Inva
   module _ (i : ℕ) (isOpen : h .opened i ≡ true) where
     -- Abort 1's test,
     torn-is : (x : ℕ) → hasRead (h .now i) x || hasWritten (h .now i) x ≡ false
-        → tornAt S r (r .handlers i) x ≡ tears (S .cellCount) (h .commits) (h .now i) (writer (h .commits) x)
+        → tornAt S r (r .handlers i) x ≡ tearsAt (S .cellCount) (h .commits) (h .now i) (writer (h .commits) x)
     torn-is x e = torn-same S (h .commits) i (h .now i) (r .handlers i) x (writer (h .commits) x) (r .cells x)
         (held S r h i g isOpen) (g .numbers x) (or-left (hasRead (h .now i) x) (hasWritten (h .now i) x) e)
 
     -- abort 2's,
-    overtaken-is : isOvertaken S r (r .handlers i) ≡ someBelow (S .cellCount) (stale (h .commits) (h .now i))
-    unfolding isOvertaken
-    overtaken-is = ap (someBelow (S .cellCount)) (fun-ext (λ y.
+    overtaken-is : overtakenCell S r (r .handlers i) ≡ lowest (S .cellCount) (stale (h .commits) (h .now i))
+    unfolding overtakenCell
+    overtaken-is = ap (lowest (S .cellCount)) (fun-ext (λ y.
         rw (holds .readSet y, holds .transaction refl y, own-number S r h g y)
         (sym (stale-at (h .commits) (inPast (h .commits) i (h .now i)) (h .now i) latest-reads y))))
       where
@@ -66,9 +66,9 @@ module _ {W : Type 0} (S : Setting W) (r : Register W) (h : History W) (g : Inva
         latest-reads y source v sooner q = holds .seen y source v sooner q .latest
 
     -- and abort 3's.
-    spent-is : isSpent S r (r .handlers i) ≡ someBelow (S .cellCount) (full (h .commits) (h .now i))
-    unfolding isSpent full
-    spent-is = ap (someBelow (S .cellCount)) (fun-ext (λ y. rw (g .handlers i .writtenSet y, own-number S r h g y)))
+    spent-is : spentCell S r (r .handlers i) ≡ lowest (S .cellCount) (full (h .commits) (h .now i))
+    unfolding spentCell full
+    spent-is = ap (lowest (S .cellCount)) (fun-ext (λ y. rw (g .handlers i .writtenSet y, own-number S r h g y)))
 
   -- ── Each reply ──────────────────────────────────────────────────────
 
@@ -81,12 +81,12 @@ module _ {W : Type 0} (S : Setting W) (r : Register W) (h : History W) (g : Inva
   answer-is i (read x) v phase =
       reading-cases S r i (r .handlers i) (λ result. result .outcome ≡ answerRead S (h .commits) (h .now i) x) x
       (λ e. let copy = sym (has-copy i x) ∙ e in rw copy (ap shows (g .handlers i .copies x copy)))
-      (λ e t. let no-copy = sym (has-copy i x) ∙ e in rw (no-copy, sym (torn-is i phase x no-copy) ∙ t))
+      (λ e y t. let no-copy = sym (has-copy i x) ∙ e in rw (no-copy, sym (torn-is i phase x no-copy) ∙ t))
       (λ e t. let no-copy = sym (has-copy i x) ∙ e in
       rw (no-copy, sym (torn-is i phase x no-copy) ∙ t) (ap shows (g .values x)))
   answer-is i try v phase = trying-cases S r i (r .handlers i) (λ result. result .outcome ≡ answerTry S (h .commits) (h .now i))
-      (λ e. rw (sym (overtaken-is i phase) ∙ e))
-      (λ e k. rw (sym (overtaken-is i phase) ∙ e, sym (spent-is i phase) ∙ k))
+      (λ z e. rw (sym (overtaken-is i phase) ∙ e))
+      (λ e z k. rw (sym (overtaken-is i phase) ∙ e, sym (spent-is i phase) ∙ k))
       (λ e k. rw (sym (overtaken-is i phase) ∙ e, sym (spent-is i phase) ∙ k))
 
   -- The reply to whatever is asked for.

@@ -4,17 +4,18 @@ use native.Mathlib.Omega.{arith}
 use mathlib.Core.Path.{_≡_, refl, sym, ap, _∙_, fun-ext}
 use mathlib.Core.Bool.{true, false, _&&_, _||_, and-false}
 use mathlib.Core.List.{List, _∷_}
+use mathlib.Core.Option.{none}
 use lib.Dec.{eqb, ltb}
 use borrow.Author.Tests.{eqb-true, eqb-false, ltb-false, le-ltb}
-use Rattle.rules.specs.steps.Tables.{put, someBelow}
+use Rattle.rules.specs.steps.Tables.{put, lowest}
 use Rattle.rules.specs.steps.Replies.{Content}
 use Rattle.rules.specs.steps.Register.{Setting, Cell, Handler}
-use Rattle.rules.specs.steps.Figure.{joined, taken, cellShows, shown, isTorn}
+use Rattle.rules.specs.steps.Figure.{joined, taken, cellShows, shown, tornCell}
 use Rattle.rules.specs.history.History.{Deed, look, Commit, someLook, hasRead, hasWritten}
-use Rattle.rules.specs.history.Past.{inPast, upTo, outdated, tears}
+use Rattle.rules.specs.history.Past.{inPast, upTo, outdated, tearsAt}
 use Rattle.rules.specs.history.Replay.{replay}
 use Rattle.rules.specs.demand.Judge.{numberAmong, copied}
-use Rattle.rules.proofs.steps.Tables.{by, either, some-false, put-here, put-other}
+use Rattle.rules.proofs.steps.Tables.{by, either, lowest-none, put-here, put-other}
 use Rattle.rules.proofs.steps.Steps.{taken-shows}
 use Rattle.rules.proofs.history.Pasts.{past-look}
 use Rattle.rules.proofs.history.Versions.{number-or}
@@ -61,13 +62,13 @@ module _ {W : Type 0} (S : Setting W) (commits : List (Commit W)) (i : ℕ) (dee
       )
           (sym (outdated-here y))
 
-  -- The numbers say abort 1 just if the history does.
-  pub torn-same : isTorn S (joined h x c) c ≡ tears (S .cellCount) commits deeds source
-  unfolding isTorn joined tears
-  torn-same = ap (someBelow (S .cellCount)) (fun-ext torn-at)
+  -- The numbers say abort 1 and the cell just if the history does.
+  pub torn-same : tornCell S (joined h x c) c ≡ tearsAt (S .cellCount) commits deeds source
+  unfolding tornCell joined tearsAt
+  torn-same = ap (lowest (S .cellCount)) (fun-ext torn-at)
 
   -- Where it is not torn, the source with its past holds no later version of a cell that was read.
-  untorn : isTorn S (joined h x c) c ≡ false → (y : ℕ) → hasRead deeds y ≡ true
+  untorn : tornCell S (joined h x c) c ≡ none → (y : ℕ) → hasRead deeds y ≡ true
       → numberAmong commits (upTo commits source) y ≤ numberAmong commits (inPast commits i deeds) y
   untorn t y e = ltb-false (numberAmong commits (inPast commits i deeds) y) (numberAmong commits (upTo commits source) y)
       (rw (outdated-here y, e) at not-outdated)
@@ -76,8 +77,8 @@ module _ {W : Type 0} (S : Setting W) (commits : List (Commit W)) (i : ℕ) (dee
       inside = let q = read-found deeds y e in g .seen y (q .source) (q .value) (q .sooner) (q .stands) .inside
 
       not-outdated : outdated commits (upTo commits source) deeds y ≡ false
-      not-outdated = some-false (S .cellCount) (outdated commits (upTo commits source) deeds)
-          (unfold tears in (sym torn-same ∙ t)) y inside
+      not-outdated = lowest-none (S .cellCount) (outdated commits (upTo commits source) deeds)
+          (unfold tearsAt in (sym torn-same ∙ t)) y inside
 
   -- The past with the read is the past and the source with its past.
   number-look : (v : Content W) (y : ℕ) → numberAmong commits (inPast commits i (look x source v ∷ deeds)) y
@@ -87,7 +88,7 @@ module _ {W : Type 0} (S : Setting W) (commits : List (Commit W)) (i : ℕ) (dee
   -- The past holds no later version of x than the source's, and the read is not torn.
   module _ (inside : x < S .cellCount) (unwritten : hasWritten deeds x ≡ false) (wrote : wroteBy commits source x ≡ true)
       (most : numberAmong commits (inPast commits i deeds) x ≤ numberAmong commits (upTo commits source) x)
-      (left : cellShows x c ≡ replay commits (upTo commits source) x) (t : isTorn S (joined h x c) c ≡ false) where
+      (left : cellShows x c ≡ replay commits (upTo commits source) x) (t : tornCell S (joined h x c) c ≡ none) where
     -- The numbers after the read are those of the past with it.
     taken-numbers : (y : ℕ)
         → taken (joined h x c) x c .transaction y ≡ numberAmong commits (inPast commits i (look x source (cellShows x c) ∷ deeds)) y

@@ -4,11 +4,12 @@ use native.Mathlib.Omega.{arith}
 use mathlib.Core.Path.{_≡_, refl, sym, _∙_, subst}
 use mathlib.Core.Bool.{true, false, _||_}
 use mathlib.Core.List.{List, [], _∷_}
+use mathlib.Core.Option.{none}
 use Rattle.rules.specs.steps.Codes.{Step, begin, try, giveUp, read, write, Kind, known, unknown}
 use Rattle.rules.specs.steps.Replies.{Refusal, Reply}
 use Rattle.rules.specs.steps.Register.{Setting, Handler, Register, withHandler}
 use Rattle.rules.specs.steps.Given.{Within, phaseFor, Free}
-use Rattle.rules.specs.steps.Figure.{begun, wrote, cellShows, shown, isOvertaken, aborting, committing, reading, trying, step}
+use Rattle.rules.specs.steps.Figure.{begun, wrote, cellShows, shown, overtakenCell, aborting, committing, reading, trying, step}
 use Rattle.rules.specs.steps.Turn.{asked, turn}
 use Rattle.rules.specs.history.History.{Deed, look, again, set, Commit, History, hasRead, hasWritten, everyCommit}
 use Rattle.rules.specs.history.History.{writer, transaction}
@@ -29,7 +30,7 @@ use Rattle.rules.proofs.demand.Invariant.{fresh-invariant, doing-invari
 use Rattle.rules.proofs.demand.Reading.{taken-carries}
 use Rattle.rules.proofs.demand.Committing.{own, held, check-finds, abort-invariant, commit-invariant}
 use Rattle.rules.proofs.demand.Judged.{has-copy, answer-is, reply-is}
-use Rattle.rules.proofs.demand.ExactAborts.{torn-exactly, overtaken-exactly}
+use Rattle.rules.proofs.demand.ExactAborts.{torn-exactly, overtaken-exactly, spent-exactly}
 
 -- Each commit, done after the earlier ones, finds what was shown.
 abbrev pub Found : {W : Type 0} → List (Commit W) → Type 0
@@ -72,7 +73,7 @@ module _ {W : Type 0} (S : Setting W) (r : Register W) (h : History W) (i : ℕ)
     holds = held S r h i (kept .invariant) isOpen
 
     -- A commit, which finds what it read.
-    commit-kept : isOvertaken S r (r .handlers i) ≡ false → Kept S (committing S r i (r .handlers i)) (noteCommit h i)
+    commit-kept : overtakenCell S r (r .handlers i) ≡ none → Kept S (committing S r i (r .handlers i)) (noteCommit h i)
     commit-kept current = record {
       invariant = commit-invariant S r h i (kept .invariant) isOpen current;
       found = unfold noteCommit ended in one-more;
@@ -86,8 +87,8 @@ module _ {W : Type 0} (S : Setting W) (r : Register W) (h : History W) (i : ℕ)
     try-kept : (v : W) → Kept S (trying S r i (r .handlers i) .after) (note h i try v (trying S r i (r .handlers i) .outcome))
     unfolding note
     try-kept v = trying-cases S r i (r .handlers i) (λ result. Kept S (result .after) (note h i try v (result .outcome)))
-        (λ e. abort-kept)
-        (λ e k. abort-kept)
+        (λ z e. abort-kept)
+        (λ e z k. abort-kept)
         (λ e k. commit-kept e)
 
     -- A repeated read, or one of a cell that it has written.
@@ -105,7 +106,7 @@ module _ {W : Type 0} (S : Setting W) (r : Register W) (h : History W) (i : ℕ)
 
     -- A first read that is not torn.
     taken-kept : (x : ℕ) → x < S .cellCount → hasRead (h .now i) x || hasWritten (h .now i) x ≡ false
-        → tornAt S r (r .handlers i) x ≡ false
+        → tornAt S r (r .handlers i) x ≡ none
         → Kept S (withHandler r i (hasTaken r (r .handlers i) x)) (doing h i (presentRead x ∷ h .now i))
     taken-kept x inside none-yet t = doing-kept (presentRead x ∷ h .now i) (hasTaken r (r .handlers i) x)
         (taken-carries S (h .commits) i (h .now i) (r .handlers i) x (writer (h .commits) x) (r .cells x) holds
@@ -131,7 +132,7 @@ module _ {W : Type 0} (S : Setting W) (r : Register W) (h : History W) (i : ℕ)
     read-kept x v inside =
         reading-cases S r i (r .handlers i) (λ result. Kept S (result .after) (note h i (read x) v (result .outcome))) x
         (λ e. let copy = sym (has-copy S r h (kept .invariant) i x) ∙ e in rw copy (again-kept x copy))
-        (λ e t. abort-kept)
+        (λ e y t. abort-kept)
         (λ e t. let none-yet = sym (has-copy S r h (kept .invariant) i x) ∙ e in rw none-yet (taken-kept x inside none-yet t))
 
   -- Every step of a cell below m, in the phase that it wants.
@@ -195,14 +196,15 @@ module _ {W : Type 0} (S : Setting W) (n : ℕ) where
       aborted = λ a earlier q. kept .invariant .aborts a earlier q .1;
       opened = λ i. from-past S (h .commits) i (h .now i) (kept .invariant .handlers i .seen);
     };
-    tornExactly = λ i code x v. torn-exactly S n r h (kept .invariant) i code v x;
+    tornExactly = λ i code x y v. torn-exactly S n r h (kept .invariant) i code v x y;
   }
 
   -- and told by its history.
   pub told-of : (r : Register W) (h : History W) → Kept S r h → Told S n r h
   told-of r h kept = record {
     replies = reply-is S r h (kept .invariant) n;
-    overtakenExactly = λ i code v. overtaken-exactly S n r h (kept .invariant) i code v;
+    overtakenExactly = λ i code y v inside asks isOpen. overtaken-exactly S n r h (kept .invariant) i code v inside asks isOpen y;
+    spentExactly = λ i code y v inside asks isOpen. spent-exactly S n r h (kept .invariant) i code v inside asks isOpen y;
     numbers = kept .invariant .numbers;
   }
 

@@ -12,7 +12,7 @@ use Rattle.rules.specs.steps.Codes.{Step, begin, try, giveUp, read, writ
 use Rattle.rules.specs.steps.Replies.{Content, Refusal}
 use Rattle.rules.specs.steps.Register.{Setting}
 use Rattle.rules.specs.history.History.{Deed, Commit, History, someLook, hasRead, hasWritten, placeAfter, writerAmong, everyCommit, writer}
-use Rattle.rules.specs.history.Past.{hasReadFrom, inPast, upTo, later, outdated, tears}
+use Rattle.rules.specs.history.Past.{hasReadFrom, inPast, upTo, later, outdated, tearsAt}
 use Rattle.rules.specs.history.Replay.{after, replay}
 use Rattle.rules.specs.demand.Demand.{reportedTo}
 use Rattle.rules.specs.demand.Judge.{versionCount, copied, stale, full, answerRead, answerTry, answer, orAnswered, judgement}
@@ -189,8 +189,8 @@ module _ {W : Type 0} where
         someLook-same _ _ deeds (λ z source. ap (λ test. eqb y z && test) (later-same commits included z source))
 
     -- and the same commits tear.
-    pub tears-same : (m k : ℕ) → tears m a now k ≡ tears m b other k
-    unfolding tears
+    pub tears-same : (m k : ℕ) → tearsAt m a now k ≡ tearsAt m b other k
+    unfolding tearsAt
     tears-same m k = simp (upTo-same commits k, cells)
       where
         cells : (included : ℕ → Bool) → outdated a included now ≡ outdated b included other

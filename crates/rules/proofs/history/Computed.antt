@@ -6,18 +6,18 @@ use mathlib.Core.Path.{_≡_, refl, sym, ap, _∙_, subst}
 use mathlib.Core.Bool.{Bool, true, not, _&&_, false≢true, or-true}
 use mathlib.Core.List.{List, [], _∷_}
 use mathlib.Core.Logic.{_↔_, Iff·trans}
+use mathlib.Core.Option.{some}
 use lib.ListN.{length}
 use lib.Dec.{eqb, ltb}
 use borrow.Author.Tests.{ltb-true, eqb-true, eqb-false, lt-ltb, eq-eqb, ne-eqb, not-true}
-use Rattle.rules.specs.steps.Tables.{someBelow}
+use Rattle.rules.specs.steps.Tables.{lowest, LowestOf}
 use Rattle.rules.specs.history.History.{Deed, Commit, hasWritten, placeAfter, writer}
 use Rattle.rules.specs.history.Past.{Stands, last, older, InPast, own, drew, before, UpTo, itself, behind, Later, Outdated, Tears}
-use Rattle.rules.specs.history.Past.{hasReadFrom, follows, inPast, upTo, later, outdated, tears}
-use Rattle.rules.specs.demand.Judge.{stale, Overtaken}
-use Rattle.rules.proofs.steps.Tables.{by, both-ways, either, and-left, and-right}
+use Rattle.rules.specs.history.Past.{hasReadFrom, follows, inPast, upTo, later, outdated, tearsAt}
+use Rattle.rules.specs.demand.Judge.{versionCount, stale, full, Overtaken, Exhausted}
+use Rattle.rules.proofs.steps.Tables.{by, both-ways, either, and-left, and-right, and-both, lowest-tells}
 use Rattle.rules.proofs.history.Pasts.{withPast, past-none, upTo-old}
-use Rattle.rules.proofs.history.Deeds.{stands-before, EachRead, PassingAt, Passing}
-use Rattle.rules.proofs.history.Deeds.{look-found, readFrom-there, look-of-cell, some-look}
+use Rattle.rules.proofs.history.Deeds.{stands-before, EachRead, PassingAt, look-found, readFrom-there, look-of-cell}
 
 module _ {W : Type 0} where
   -- The place of a commit that stands.
@@ -241,46 +241,66 @@ module _ {W : Type 0} (included : ℕ → Bool) (Included : ℕ → Type 0) (tel
   unfolding outdated
   outdated-is commits deeds y = Iff·trans (look-of-cell (later commits included) deeds y) (passing-outdated commits deeds y)
 
--- ── What tears, and what is overtaken ─────────────────────────────────
+-- ── What tears, and what is overtaken or exhausted ────────────────────
+
+-- A cell that is computed to be outdated by a commit and its past is one that they tear.
+pub tears-at : {W : Type 0} (commits : List (Commit W)) (deeds : List (Deed W)) (k y : ℕ)
+    → (outdated commits (upTo commits k) deeds y ≡ true) ↔ Tears commits deeds k y
+tears-at commits deeds k y = outdated-is (upTo commits k) (UpTo commits k) (upTo-is commits k) commits deeds y
 
 -- Of deeds that read none but m cells.
 module _ {W : Type 0} (m : ℕ) (commits : List (Commit W)) (deeds : List (Deed W))
     (inside : EachRead (λ y source v. y < m) deeds) where
-  -- What is computed to tear does.
-  pub tears-is : (k : ℕ) → (tears m commits deeds k ≡ true) ↔ Tears commits deeds k
-  unfolding tears outdated
-  tears-is k = Iff·trans (some-look m (later commits (upTo commits k)) deeds inside)
-      ((λ t. (t .0, told (t .0) .0 (t .1))), (λ t. (t .0, told (t .0) .1 (t .1))))
+  -- The cell that is computed to tear is the lowest that does.
+  pub tears-is : (k y : ℕ) → (tearsAt m commits deeds k ≡ some y) ↔ LowestOf (Tears commits deeds k) y
+  unfolding tearsAt
+  tears-is k = lowest-tells m (outdated commits (upTo commits k) deeds) (Tears commits deeds k) tells
     where
-      told : (y : ℕ) → PassingAt (later commits (upTo commits k)) deeds y ↔ Outdated commits (UpTo commits k) deeds y
-      told y = passing-outdated (upTo commits k) (UpTo commits k) (upTo-is commits k) commits deeds y
+      tells : (y : ℕ) → ((y < m) × (outdated commits (upTo commits k) deeds y ≡ true)) ↔ Tears commits deeds k y
+      tells y =
+          let told = tears-at commits deeds k y in
+          ((λ p. told .0 (p .1)), (λ t. (inside y (t .source) (t .value) (t .sooner) (t .reads), told .1 t)))
 
-  -- Where a version read is computed to be stale, one is overtaken.
-  pub stale-is : (someBelow m (stale commits deeds) ≡ true) ↔ Overtaken commits deeds
+  -- A cell below m whose version read is computed to be stale is one that is overtaken.
+  pub stale-tells : (y : ℕ) → ((y < m) × (stale commits deeds y ≡ true)) ↔ Overtaken commits deeds y
   unfolding stale
-  stale-is = Iff·trans (some-look m (λ z source. not (eqb source (writer commits z))) deeds inside) (to, from)
+  stale-tells y = (to, from)
     where
-      to : Passing (λ z source. not (eqb source (writer commits z))) deeds → Overtaken commits deeds
-      to t =
-          let q = t .1 in
+      test : ℕ → ℕ → Bool
+      test z source = not (eqb source (writer commits z))
+
+      to : (y < m) × (stale commits deeds y ≡ true) → Overtaken commits deeds y
+      to p =
+          let q = look-of-cell test deeds y .0 (p .1) in
           record {
-            cell = t .0;
             source = q .source;
             value = q .value;
             sooner = q .sooner;
             reads = q .stands;
-            passed = eqb-false (q .source) (writer commits (t .0))
-                (not-true (eqb (q .source) (writer commits (t .0))) (q .passes));
+            passed = eqb-false (q .source) (writer commits y) (not-true (eqb (q .source) (writer commits y)) (q .passes));
           }
 
-      from : Overtaken commits deeds → Passing (λ z source. not (eqb source (writer commits z))) deeds
+      from : Overtaken commits deeds y → (y < m) × (stale commits deeds y ≡ true)
       from q = (
-        q .cell,
-        record {
+        inside y (q .source) (q .value) (q .sooner) (q .reads),
+        look-of-cell test deeds y .1 (record {
           source = q .source;
           value = q .value;
           sooner = q .sooner;
           stands = q .reads;
-          passes = ap not (ne-eqb (q .source) (writer commits (q .cell)) (q .passed));
-        },
+          passes = ap not (ne-eqb (q .source) (writer commits y) (q .passed));
+        }),
+      )
+
+  -- A cell below m that is computed to be full is exhausted, where none but m cells were written.
+  pub full-tells : ((y : ℕ) → hasWritten deeds y ≡ true → y < m) → (y : ℕ)
+      → ((y < m) × (full commits deeds y ≡ true)) ↔ Exhausted commits deeds y
+  unfolding full
+  full-tells within y =
+      let counted : Bool = eqb (versionCount commits y) 65535 in (
+        (λ p. record {
+          writes = and-left (hasWritten deeds y) counted (p .1);
+          versions = eqb-true (versionCount commits y) 65535 (and-right (hasWritten deeds y) counted (p .1));
+        }),
+        (λ q. (within y (q .writes), and-both (hasWritten deeds y) counted (q .writes) (eq-eqb (versionCount commits y) 65535 (q .versions)))),
       )

@@ -8,13 +8,13 @@ use mathlib.Core.Logic.{_↔_}
 use lib.ListN.{length}
 use lib.Dec.{eqb}
 use borrow.Author.Tests.{eqb-true, eq-eqb}
-use Rattle.rules.specs.steps.Tables.{put, someBelow}
+use Rattle.rules.specs.steps.Tables.{put}
 use Rattle.rules.specs.steps.Replies.{Content}
 use Rattle.rules.specs.history.History.{Deed, look, again, set, Commit, someLook, hasRead, hasWritten, placeAfter}
 use Rattle.rules.specs.history.Past.{Stands, last, older, hasReadFrom}
 use Rattle.rules.specs.history.Replay.{after, Finds}
 use Rattle.rules.specs.demand.Judge.{copied}
-use Rattle.rules.proofs.steps.Tables.{by, either, and-left, and-right, and-both, same-test, some-true, some-from}
+use Rattle.rules.proofs.steps.Tables.{by, either, and-left, and-right, and-both, same-test}
 
 -- What stands before one that stands in a list stands in the list.
 pub stands-before : {A : Type 0} {list middle earlier : List A} {a b : A} → Stands list a middle → Stands middle b earlier
@@ -136,16 +136,6 @@ module _ {W : Type 0} where
 
       from : PassingAt test deeds y → someLook of-cell deeds ≡ true
       from q = look-there of-cell deeds (q .stands) (and-both (eqb y y) (test y (q .source)) (eq-eqb y y refl) (q .passes))
-
-  -- Where only cells below m were read, some of them passes just if some read does.
-  pub some-look : (m : ℕ) (test : ℕ → ℕ → Bool) (deeds : List (Deed W)) → EachRead (λ y source v. y < m) deeds
-      → (someBelow m (λ y. someLook (λ z source. eqb y z && test z source) deeds) ≡ true) ↔ Passing test deeds
-  some-look m test deeds inside = (
-    (λ e. let q = some-true m _ e in (q .0, look-of-cell test deeds (q .0) .0 (q .2))),
-    (λ t. let q = t .1 in
-        let below : t .0 < m = inside (t .0) (q .source) (q .value) (q .sooner) (q .stands) in
-        some-from m _ (t .0) below (look-of-cell test deeds (t .0) .1 q)),
-  )
 
   -- Where each read passes a test just if its cell passes another, a cell's read passes just if the cell was read and passes.
   pub look-at-cell : (test : ℕ → ℕ → Bool) (cells : ℕ → Bool) (deeds : List (Deed W)) (y : ℕ)

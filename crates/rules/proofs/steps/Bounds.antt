@@ -4,14 +4,15 @@ use Prim.Native.Nat.{ℕ, _≤_, _<_}
 use mathlib.Core.Path.{_≡_}
 use mathlib.Core.Bool.{Bool, true, false}
 use native.Mathlib.Omega.{arith}
+use mathlib.Core.Option.{none}
 use borrow.Author.Tests.{eqb-false}
 use Rattle.rules.specs.steps.Tables.{put}
 use Rattle.rules.specs.steps.Codes.{Step}
 use Rattle.rules.specs.steps.Register.{Setting, Cell, Handler, Register, withHandler, idle, blank, fresh}
 use Rattle.rules.specs.steps.Given.{Within}
-use Rattle.rules.specs.steps.Figure.{joined, taken, wrote, stamped, stored, begun, isSpent, aborting, committing, step}
+use Rattle.rules.specs.steps.Figure.{joined, taken, wrote, stamped, stored, begun, spentCell, aborting, committing, step}
 use Rattle.rules.specs.steps.Turn.{turn}
-use Rattle.rules.proofs.steps.Tables.{by, some-false, put-each}
+use Rattle.rules.proofs.steps.Tables.{by, lowest-none, put-each}
 use Rattle.rules.proofs.steps.Ways.{Ways, step-keeps, turn-keeps}
 
 -- The first m numbers of a table are at most 65,535.
@@ -66,14 +67,14 @@ module _ {W : Type 0} (S : Setting W) where
 
   module _ (n : ℕ) where
     -- A number that is not spent can be raised by 1.
-    stamped-fits : (r : Register W) (h : Handler W) → Bounded m n r → BoundedHandler m h → isSpent S r h ≡ false
+    stamped-fits : (r : Register W) (h : Handler W) → Bounded m n r → BoundedHandler m h → spentCell S r h ≡ none
         → Fit m (stamped r h)
-    unfolding stamped isSpent
+    unfolding stamped spentCell
     stamped-fits r h b own unspent y l = by (h .writtenSet y) raised (λ e. rw e (own .transaction y l))
       where
         raised : h .writtenSet y ≡ true → stamped r h y ≤ 65535
         raised e =
-            let below : r .cells y .numbers y ≡ 65535 → ⊥ = eqb-false _ 65535 (rw e at (some-false m _ unspent y l)) in
+            let below : r .cells y .numbers y ≡ 65535 → ⊥ = eqb-false _ 65535 (rw e at (lowest-none m _ unspent y l)) in
             rw e (omega (arith, b .cells y l y l, below))
 
     -- A stored cell holds its old numbers or the stamped ones.

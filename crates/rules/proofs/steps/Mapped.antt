@@ -9,7 +9,7 @@ use Rattle.rules.specs.steps.Codes.{Step, begin, try, giveUp, read, writ
 use Rattle.rules.specs.steps.Replies.{Reason, gaveUp, Content, unset, value, Outcome, ok, shows, committed, aborted}
 use Rattle.rules.specs.steps.Register.{Setting, Cell, Handler, Register, withHandler, idle}
 use Rattle.rules.specs.steps.Checks.{firstHit}
-use Rattle.rules.specs.steps.Figure.{Result, joined, taken, wrote, versionShows, shown, stamped, stored, begun, isTorn, isOvertaken, isSpent}
+use Rattle.rules.specs.steps.Figure.{Result, joined, taken, wrote, versionShows, shown, stamped, stored, begun, tornCell, overtakenCell, spentCell}
 use Rattle.rules.specs.steps.Figure.{aborting, committing, endedWith, unlessAborted, readChecks, tryChecks, firstRead, reading, trying, step}
 use Rattle.rules.proofs.steps.Tables.{by, put-map}
 
@@ -111,7 +111,7 @@ module _ {W U : Type 0} (f : W → U) where
 
     -- A step.
     pub step-mapped : (s : Step) (v : W) → step (mapSetting S) (mapRegister r) i s (f v) ≡ mapResult (step S r i s v)
-    unfolding step begun wrote trying tryChecks isOvertaken isSpent reading firstRead readChecks isTorn joined taken withHandler firstHit
+    unfolding step begun wrote trying tryChecks overtakenCell spentCell reading firstRead readChecks tornCell joined taken withHandler firstHit
     step-mapped begin v = ap (λ q. record { outcome = ok; after = q }) (with-mapped r i _)
     step-mapped try v = unless-mapped (firstHit (tryChecks S r (r .handlers i)))
         (record { outcome = committed; after = committing S r i (r .handlers i) }) (ap (λ q. record { outcome = committed; after = q }) commit-mapped)

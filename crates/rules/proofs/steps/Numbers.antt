@@ -1,13 +1,14 @@
--- Nothing is lost in the numbers of docs/RULES.md: each numbering is injective. A numbering that can be read back is, so for reasons
--- and refusals the reading back is written down.
+-- Nothing is lost in the numbers of docs/RULES.md: each numbering is injective, an abort's with its cell. A numbering that can be read back
+-- is, so for reasons and refusals the reading back is written down.
 use Prim.Native.Nat.{ℕ}
 use native.Mathlib.Omega.{arith}
 use mathlib.Core.Path.{_≡_, refl, sym, ap, _∙_}
+use mathlib.Core.Option.{Option}
 use lib.Dec.{eqb}
-use Rattle.rules.specs.steps.Tables.{if_then_else_}
+use Rattle.rules.specs.steps.Tables.{if_then_else_, placeOf}
 use Rattle.rules.specs.steps.Replies.{Reason, torn, overtaken, spent, gaveUp, unset, value, Outcome, ok, shows, committed}
 use Rattle.rules.specs.steps.Replies.{aborted, Refusal, notWellFormed, noHandler, noCell, alreadyOpen, notOpen, unknownStep, outOfRange}
-use Rattle.rules.specs.steps.Replies.{tooShort, badFile, usedUp, tooManyCommits, sheetFull, noRoom, reasonNumber, refusalNumber}
+use Rattle.rules.specs.steps.Replies.{tooShort, badFile, usedUp, tooManyCommits, sheetFull, noRoom, reasonNumber, reasonCell, refusalNumber}
 use Rattle.rules.specs.steps.Replies.{Numbers, outcomeNumbers, refusalNumbers}
 
 -- Different things have different images.
@@ -18,9 +19,18 @@ Injective {A} number = (a b : A) → number a ≡ number b → a ≡ b
 pub read-back : {A B : Type 0} (number : A → B) (back : B → A) → ((a : A) → back (number a) ≡ a) → Injective number
 read-back number back same a b e = sym (same a) ∙ ap back e ∙ same b
 
--- The reason of a number.
-reasonBack : ℕ → Reason
-reasonBack n = if eqb n 1 then torn else (if eqb n 2 then overtaken else (if eqb n 3 then spent else gaveUp))
+-- What an abort's reason is told by: its number, and the cell that it names, if it names one.
+pub record Named : Type 0 where
+  pub number : ℕ
+  pub cell : Option ℕ
+
+-- The number and the cell of a reason.
+abbrev pub named : Reason → Named
+named reason = record { number = reasonNumber reason; cell = reasonCell reason }
+
+-- The reason of a number and a cell.
+reasonBack : ℕ → ℕ → Reason
+reasonBack n y = if eqb n 1 then (torn y) else (if eqb n 2 then (overtaken y) else (if eqb n 3 then (spent y) else gaveUp))
 
 -- The refusal of a number.
 refusalBack : ℕ → Refusal
@@ -37,14 +47,14 @@ refusalBack n =
 outcomeBack : Numbers → Outcome ℕ
 outcomeBack n =
     if eqb (n .kind) 0 then ok else (if eqb (n .kind) 1 then (shows (value (n .detail)))
-    else (if eqb (n .kind) 5 then (shows unset) else (if eqb (n .kind) 2 then committed else (aborted (reasonBack (n .detail))))))
+    else (if eqb (n .kind) 5 then (shows unset) else (if eqb (n .kind) 2 then committed else (aborted (reasonBack (n .detail) (n .cell))))))
 
--- A reason comes back from its number.
-reason-back : (reason : Reason) → reasonBack (reasonNumber reason) ≡ reason
+-- A reason comes back from its number and its cell.
+reason-back : (reason : Reason) → reasonBack (reasonNumber reason) (placeOf (reasonCell reason)) ≡ reason
 unfolding reasonBack
-reason-back torn = refl
-reason-back overtaken = refl
-reason-back spent = refl
+reason-back (torn y) = refl
+reason-back (overtaken y) = refl
+reason-back (spent y) = refl
 reason-back gaveUp = refl
 
 -- A refusal comes back from its number.
@@ -73,15 +83,15 @@ outcome-back (shows unset) = refl
 outcome-back committed = refl
 outcome-back (aborted reason) = ap aborted (reason-back reason)
 
--- No two reasons have the same number.
-pub reasons-apart : Injective reasonNumber
-reasons-apart = read-back reasonNumber reasonBack reason-back
+-- No two reasons have the same number and the same cell.
+pub reasons-apart : Injective named
+reasons-apart = read-back named (λ n. reasonBack (n .number) (placeOf (n .cell))) reason-back
 
 -- No two refusals have the same number.
 pub refusals-apart : Injective refusalNumber
 refusals-apart = read-back refusalNumber refusalBack refusal-back
 
--- No two outcomes have the same kind and detail.
+-- No two outcomes have the same kind, detail and cell.
 pub outcomes-apart : Injective outcomeNumbers
 outcomes-apart = read-back outcomeNumbers outcomeBack outcome-back
 

@@ -51,7 +51,7 @@ module _ {W : Type 0} (S : Setting W) where
   changes-one r i giveUp v ne = one-changed r i _
   changes-one r i (read x) v ne =
       reading-cases S r i (r .handlers i) (λ result. OneHandler r i (result .after)) x
-      (λ copied. unchanged r i) (λ first isTorn. one-changed r i _) (λ first isTaken. one-changed r i _)
+      (λ copied. unchanged r i) (λ first y isTorn. one-changed r i _) (λ first isTaken. one-changed r i _)
   changes-one r i (write x) v ne = one-changed r i _
 
   -- Property 3: no write aborts.
@@ -75,11 +75,11 @@ module _ {W : Type 0} (S : Setting W) where
   abort-ends r i (read x) v reason =
       reading-cases S r i (r .handlers i) (EndsIdle r i reason) x
       (λ copied e. absurd (shows-no-abort _ reason e))
-      (λ first isTorn e. refl)
+      (λ first y isTorn e. refl)
       (λ first isTaken e. absurd (shows-no-abort _ reason e))
   abort-ends r i try v reason =
       trying-cases S r i (r .handlers i) (EndsIdle r i reason)
-      (λ stale e. refl) (λ current full e. refl) (λ current roomy e. absurd (commit-no-abort reason e))
+      (λ z stale e. refl) (λ current z full e. refl) (λ current roomy e. absurd (commit-no-abort reason e))
   abort-ends r i giveUp v reason = λ e. refl
 
   -- A give up always comes to abort 5. What it leaves is what every abort does (abort-ends).
@@ -96,10 +96,10 @@ module _ {W : Type 0} (S : Setting W) where
   only-give-up r i (read x) v =
       reading-cases S r i (r .handlers i) (λ result. result .outcome ≡ aborted gaveUp → read x ≡ giveUp) x
       (λ copied e. absurd (shows-no-abort _ gaveUp e))
-      (λ first isTorn e. let numbers : 1 ≡ 5 = same-number e in absurd (omega arith))
+      (λ first y isTorn e. let numbers : 1 ≡ 5 = same-number e in absurd (omega arith))
       (λ first isTaken e. absurd (shows-no-abort _ gaveUp e))
   only-give-up r i try v =
       trying-cases S r i (r .handlers i) (λ result. result .outcome ≡ aborted gaveUp → try ≡ giveUp)
-      (λ stale e. let numbers : 2 ≡ 5 = same-number e in absurd (omega arith))
-      (λ current full e. let numbers : 3 ≡ 5 = same-number e in absurd (omega arith))
+      (λ z stale e. let numbers : 2 ≡ 5 = same-number e in absurd (omega arith))
+      (λ current z full e. let numbers : 3 ≡ 5 = same-number e in absurd (omega arith))
       (λ current roomy e. absurd (commit-no-abort gaveUp e))

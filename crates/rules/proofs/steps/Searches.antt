@@ -1,15 +1,15 @@
 -- Laws of what is looked for below a number of places: what a loop that looks for the first place that passes a test answers, and
 -- when two searches answer the same.
-use Prim.Native.Nat.{ℕ, suc, _+_, _≤_, _<_}
+use Prim.Native.Nat.{ℕ, zero, suc, _+_, _≤_, _<_}
 use native.Mathlib.Omega.{arith}
-use mathlib.Core.Path.{_≡_, refl, sym, ap, _∙_}
+use mathlib.Core.Path.{_≡_, refl, sym, ap, ap₂, _∙_}
 use mathlib.Core.Bool.{Bool, true, false, _||_, or-true}
 use mathlib.Core.Option.{Option, none, some}
 use lib.Dec.{eqb}
 use borrow.Author.Count.{below-more}
 use borrow.Author.Tests.{eqb-true, eqb-false}
 use Rattle.rules.specs.steps.Tables.{orElse, lowest, isFound, someBelow}
-use Rattle.rules.proofs.steps.Tables.{by, both-ways, either, same-test, some-true, some-from, some-none}
+use Rattle.rules.proofs.steps.Tables.{by, both-ways, either, same-test, lowest-is, lowest-empty, some-true, some-from, some-none}
 
 -- No place below y passes the test.
 abbrev pub NoneBelow : (ℕ → Bool) → ℕ → Type 0
@@ -19,6 +19,18 @@ NoneBelow test y = (z : ℕ) → z < y → test z ≡ false
 pub search-goes : {test : ℕ → Bool} {y : ℕ} {found : Bool} → NoneBelow test y → found ≡ test y → found ≡ false → NoneBelow test (y + 1)
 search-goes before tested fails = below-more _ _ before (sym tested ∙ fails)
 
+-- A search that names the place where it ends,
+module _ (m : ℕ) (test : ℕ → Bool) {answer : Option ℕ} (asked : answer ≡ lowest m test) where
+  -- names the first place that passes,
+  pub search-names : (y : ℕ) {found : Bool} → NoneBelow test y → y < m → found ≡ test y → found ≡ true → some y ≡ answer
+  search-names y before inside tested passes =
+      sym (asked ∙ lowest-is m test y (record { below = inside; passes = sym tested ∙ passes; first = before }))
+
+  -- and none behind the last.
+  pub search-ends : {y : ℕ} → NoneBelow test y → m ≤ y → none ≡ answer
+  search-ends fails all = sym (asked ∙ lowest-empty m test (λ z h. fails z (omega arith)))
+
+-- A search that only tells whether there is one.
 module _ (m : ℕ) (test : ℕ → Bool) {answer : Bool} (asked : answer ≡ someBelow m test) where
   -- The search ends at a place that passes.
   pub search-hits : (y : ℕ) {found : Bool} → y < m → found ≡ test y → found ≡ true → true ≡ answer
@@ -28,11 +40,12 @@ module _ (m : ℕ) (test : ℕ → Bool) {answer : Bool} (asked : answer ≡ som
   pub search-misses : {y : ℕ} → NoneBelow test y → m ≤ y → false ≡ answer
   search-misses fails all = sym (asked ∙ some-none m test (λ z h. fails z (omega arith)))
 
--- Where tests agree below m, some place passes the one if and only if some place passes the other.
-pub some-same : (m : ℕ) (test other : ℕ → Bool) → ((y : ℕ) → y < m → test y ≡ other y) → someBelow m test ≡ someBelow m other
-some-same m test other same = same-test (someBelow m test) (someBelow m other)
-    (λ e. let place = some-true m test e in some-from m other _ (place .1) (sym (same _ (place .1)) ∙ place .2))
-    (λ e. let place = some-true m other e in some-from m test _ (place .1) (same _ (place .1) ∙ place .2))
+-- Where tests agree below m, the same place is found.
+pub lowest-same : (m : ℕ) (test other : ℕ → Bool) → ((y : ℕ) → y < m → test y ≡ other y) → lowest m test ≡ lowest m other
+unfolding lowest
+lowest-same zero test other same = refl
+lowest-same (suc m) test other same =
+    ap₂ (λ before passes. orElse before passes m) (lowest-same m test other (λ y h. same y (omega arith))) (same m (omega arith))
 
 -- Where all places but one fail, that one decides.
 pub some-only : (m : ℕ) (test : ℕ → Bool) (x : ℕ) → x < m → ((y : ℕ) → (y ≡ x → ⊥) → test y ≡ false) → someBelow m test ≡ test x

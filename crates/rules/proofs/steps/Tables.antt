@@ -8,7 +8,7 @@ use mathlib.Core.Option.{Option, none, some, Option·some-injective, Option·som
 use lib.Dec.{eqb, leb}
 use mathlib.Core.Logic.{_↔_}
 use borrow.Author.Tests.{leb-true, le-leb, eqb-true, eqb-false, eq-eqb, ne-eqb}
-use Rattle.rules.specs.steps.Tables.{put, orElse, lowest, someBelow}
+use Rattle.rules.specs.steps.Tables.{put, orElse, lowest, LowestOf, someBelow}
 
 -- ── Tests ─────────────────────────────────────────────────────────────
 
@@ -122,6 +122,53 @@ lowest-is m test y least = found (lowest m test)
     let same : z ≡ y = omega (arith, notBelow, notAbove) in
     q ∙ ap some same)
     (λ q. both-ways (least .passes) (lowest-none m test q y (least .below)))
+
+-- Where each place fails, none is found.
+pub lowest-empty : (m : ℕ) (test : ℕ → Bool) → ((y : ℕ) → y < m → test y ≡ false) → lowest m test ≡ none
+lowest-empty m test fails = found (lowest m test)
+    (λ y q. let k = lowest-some m test y q in both-ways (k .passes) (fails y (k .below))) (λ q. q)
+
+-- There is one lowest place that meets a condition.
+pub lowest-one : (Meets : ℕ → Type 0) {y z : ℕ} → LowestOf Meets y → LowestOf Meets z → y ≡ z
+lowest-one Meets {y} {z} a b =
+    let notBelow : y < z → ⊥ = λ l. b .least y l (a .meets) in
+    let notAbove : z < y → ⊥ = λ l. a .least z l (b .meets) in
+    omega (arith, notBelow, notAbove)
+
+-- Where a test tells a condition that some place meets, there is a lowest one that does.
+pub lowest-there : (test : ℕ → Bool) (Meets : ℕ → Type 0) → ((y : ℕ) → (test y ≡ true) ↔ Meets y)
+    → (y : ℕ) → Meets y → (z : ℕ) × LowestOf Meets z
+lowest-there test Meets tells y t = found (lowest (suc y) test)
+    (λ z q. let k = lowest-some (suc y) test z q in
+    (z, record { meets = tells z .0 (k .passes); least = λ w l u. both-ways (tells w .1 u) (k .first w l) }))
+    (λ q. both-ways (tells y .1 t) (lowest-none (suc y) test q y (omega arith)))
+
+-- A test of the places below m that tells a condition:
+module _ (m : ℕ) (test : ℕ → Bool) (Meets : ℕ → Type 0) (tells : (y : ℕ) → ((y < m) × (test y ≡ true)) ↔ Meets y) where
+  -- what is found is the lowest place that meets it,
+  pub lowest-tells : (y : ℕ) → (lowest m test ≡ some y) ↔ LowestOf Meets y
+  lowest-tells y = (to, from)
+    where
+      to : lowest m test ≡ some y → LowestOf Meets y
+      to e =
+          let q = lowest-some m test y e in
+          record { meets = tells y .0 (q .below, q .passes); least = λ z l t. both-ways (tells z .1 t .1) (q .first z l) }
+
+      from : LowestOf Meets y → lowest m test ≡ some y
+      from k =
+          let there = tells y .1 (k .meets) in
+          lowest-is m test y (record {
+            below = there .0;
+            passes = there .1;
+            first = λ z l. by (test z) (λ t. absurd (k .least z l (tells z .0 (omega (arith, there .0), t)))) (λ t. t);
+          })
+
+  -- and nothing is found exactly where none meets it.
+  pub none-tells : (lowest m test ≡ none) ↔ ((y : ℕ) → Meets y → ⊥)
+  none-tells = (
+    λ e y k. let there = tells y .1 k in both-ways (there .1) (lowest-none m test e y (there .0)),
+    λ h. lowest-empty m test (λ y l. by (test y) (λ t. absurd (h y (tells y .0 (l, t)))) (λ t. t)),
+  )
 
 -- Some place passes: there is one.
 pub some-true : (m : ℕ) (test : ℕ → Bool) → someBelow m test ≡ true → (y : ℕ) × (y < m) × (test y ≡ true)

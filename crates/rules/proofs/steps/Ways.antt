@@ -3,10 +3,11 @@
 use Prim.Native.Nat.{ℕ, _<_}
 use mathlib.Core.Path.{_≡_}
 use mathlib.Core.Bool.{Bool, false, _||_}
+use mathlib.Core.Option.{none}
 use Rattle.rules.specs.steps.Codes.{Step, begin, try, giveUp, read, write}
 use Rattle.rules.specs.steps.Register.{Setting, Register, withHandler}
 use Rattle.rules.specs.steps.Given.{Within}
-use Rattle.rules.specs.steps.Figure.{wrote, begun, isOvertaken, isSpent, aborting, committing, step}
+use Rattle.rules.specs.steps.Figure.{wrote, begun, overtakenCell, spentCell, aborting, committing, step}
 use Rattle.rules.specs.steps.Turn.{turn}
 use Rattle.rules.proofs.steps.Steps.{hasTaken, tornAt, reading-cases, trying-cases}
 use Rattle.rules.proofs.steps.Turns.{turn-leaves}
@@ -17,9 +18,9 @@ pub record Ways {W : Type 0} (S : Setting W) (P : Register W → Type 0) (r : Re
   pub begins : P (withHandler r i (begun S (r .handlers i)))
   pub writes : (x : ℕ) → x < S .cellCount → (v : W) → P (withHandler r i (wrote (r .handlers i) x v))
   pub reads : (x : ℕ) → x < S .cellCount → r .handlers i .readSet x || r .handlers i .writtenSet x ≡ false
-      → tornAt S r (r .handlers i) x ≡ false → P (withHandler r i (hasTaken r (r .handlers i) x))
+      → tornAt S r (r .handlers i) x ≡ none → P (withHandler r i (hasTaken r (r .handlers i) x))
   pub aborts : P (aborting S r i (r .handlers i))
-  pub commits : isOvertaken S r (r .handlers i) ≡ false → isSpent S r (r .handlers i) ≡ false
+  pub commits : overtakenCell S r (r .handlers i) ≡ none → spentCell S r (r .handlers i) ≡ none
       → P (committing S r i (r .handlers i))
 
 module _ {W : Type 0} (S : Setting W) (P : Register W → Type 0) (r : Register W) (i : ℕ) (ways : Ways S P r i) where
@@ -29,11 +30,11 @@ module _ {W : Type 0} (S : Setting W) (P : Register W → Type 0) (r : Register 
   step-leaves begin below v = ways .begins
   step-leaves try below v =
       trying-cases S r i (r .handlers i) (λ result. P (result .after))
-      (λ stale. ways .aborts) (λ current full. ways .aborts) (ways .commits)
+      (λ z stale. ways .aborts) (λ current z full. ways .aborts) (ways .commits)
   step-leaves giveUp below v = ways .aborts
   step-leaves (read x) below v =
       reading-cases S r i (r .handlers i) (λ result. P (result .after)) x
-      (λ copied. ways .stays) (λ first isTorn. ways .aborts) (ways .reads x below)
+      (λ copied. ways .stays) (λ first y isTorn. ways .aborts) (ways .reads x below)
   step-leaves (write x) below v = ways .writes x below v
 
 -- A property of registers that each way keeps, for a handler below n, is kept by every such step and by every turn.

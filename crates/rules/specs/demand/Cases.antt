@@ -35,27 +35,27 @@ pub record Case : Type 0 where
 
 -- The reply ok.
 abbrev ok : Numbers
-ok = record { kind = 0; detail = 0 }
+ok = record { kind = 0; detail = 0; cell = 0 }
 
 -- Unset.
 abbrev unset : Numbers
-unset = record { kind = 5; detail = 0 }
+unset = record { kind = 5; detail = 0; cell = 0 }
 
 -- A value.
 abbrev value : ℕ → Numbers
-value v = record { kind = 1; detail = v }
+value v = record { kind = 1; detail = v; cell = 0 }
 
 -- A commit.
 abbrev commit : Numbers
-commit = record { kind = 2; detail = 0 }
+commit = record { kind = 2; detail = 0; cell = 0 }
 
--- An abort with its reason.
-abbrev abort : ℕ → Numbers
-abort reason = record { kind = 3; detail = reason }
+-- An abort with its reason, and the cell that it names; 0 where it names none.
+abbrev abort : ℕ → ℕ → Numbers
+abort reason cell = record { kind = 3; detail = reason; cell = cell }
 
 -- A refusal with its number.
 abbrev refused : ℕ → Numbers
-refused number = record { kind = 4; detail = number }
+refused number = record { kind = 4; detail = number; cell = 0 }
 
 -- A step that takes no value.
 abbrev line : ℕ → ℕ → Numbers → CaseStep
@@ -116,13 +116,13 @@ cases =
           line 0 1 commit ∷ [];
       end = register (cell 5 2 0 ∷ cell 0 0 0 ∷ []) (rests 2 0 ∷ rests 1 0 ∷ []) (untouched 1);
     } ∷
-    -- K6 H0 reads 0; H1 commits 0 := 5; H0 tries: abort 2
+    -- K6 H0 reads 0; H1 commits 0 := 5; H0 tries: abort 2, cell 0
     record {
       start = opened 2 2 26 ok;
       lines =
           line 0 0 ok ∷ line 0 32 unset ∷
           line 1 0 ok ∷ write 1 64 5 ∷ line 1 1 commit ∷
-          line 0 1 (abort 2) ∷ [];
+          line 0 1 (abort 2 0) ∷ [];
       end = register (cell 5 1 0 ∷ cell 0 0 0 ∷ []) (rests 0 0 ∷ rests 1 0 ∷ []) [];
     } ∷
     -- the same if H0 also writes 0
@@ -131,7 +131,7 @@ cases =
       lines =
           line 0 0 ok ∷ line 0 32 unset ∷ write 0 64 3 ∷
           line 1 0 ok ∷ write 1 64 5 ∷ line 1 1 commit ∷
-          line 0 1 (abort 2) ∷ [];
+          line 0 1 (abort 2 0) ∷ [];
       end = register (cell 5 1 0 ∷ cell 0 0 0 ∷ []) (rests 0 0 ∷ rests 1 0 ∷ []) [];
     } ∷
     -- K7 the listing
@@ -140,47 +140,47 @@ cases =
       lines =
           line 0 0 ok ∷ line 0 32 unset ∷
           line 1 0 ok ∷ write 1 64 5 ∷ write 1 65 7 ∷ line 1 1 commit ∷
-          line 0 33 (abort 1) ∷ [];
+          line 0 33 (abort 1 0) ∷ [];
       end = register (cell 5 1 1 ∷ cell 7 1 1 ∷ []) (rests 0 0 ∷ rests 1 1 ∷ []) [];
     } ∷
-    -- K8 H0 reads 0; H1 commits 0 := 5; H2 reads 0, writes 1 := 6, commits; H0 reads 1: abort 1. Cell 1's numbers are (1,1)
+    -- K8 H0 reads 0; H1 commits 0 := 5; H2 reads 0, writes 1 := 6, commits; H0 reads 1: abort 1, cell 0. Cell 1's numbers are (1,1)
     record {
       start = opened 2 3 35 ok;
       lines =
           line 0 0 ok ∷ line 0 32 unset ∷
           line 1 0 ok ∷ write 1 64 5 ∷ line 1 1 commit ∷
           line 2 0 ok ∷ line 2 32 (value 5) ∷ write 2 65 6 ∷ line 2 1 commit ∷
-          line 0 33 (abort 1) ∷ [];
+          line 0 33 (abort 1 0) ∷ [];
       end = register (cell 5 1 0 ∷ cell 6 1 1 ∷ []) (rests 0 0 ∷ rests 1 0 ∷ rests 1 1 ∷ []) [];
     } ∷
-    -- K9 H0 reads 0; H1 commits 0 := 5, then in a second transaction 1 := 6; H0 reads 1: abort 1
+    -- K9 H0 reads 0; H1 commits 0 := 5, then in a second transaction 1 := 6; H0 reads 1: abort 1, cell 0
     record {
       start = opened 2 2 26 ok;
       lines =
           line 0 0 ok ∷ line 0 32 unset ∷
           line 1 0 ok ∷ write 1 64 5 ∷ line 1 1 commit ∷
           line 1 0 ok ∷ write 1 65 6 ∷ line 1 1 commit ∷
-          line 0 33 (abort 1) ∷ [];
+          line 0 33 (abort 1 0) ∷ [];
       end = register (cell 5 1 0 ∷ cell 6 1 1 ∷ []) (rests 0 0 ∷ rests 1 1 ∷ []) [];
     } ∷
-    -- K10 H0 reads 0; H1 commits 0 := 5; H2 commits 1 := 6, blind; H0 reads 1: value 6; H0 tries: abort 2
+    -- K10 H0 reads 0; H1 commits 0 := 5; H2 commits 1 := 6, blind; H0 reads 1: value 6; H0 tries: abort 2, cell 0
     record {
       start = opened 2 3 35 ok;
       lines =
           line 0 0 ok ∷ line 0 32 unset ∷
           line 1 0 ok ∷ write 1 64 5 ∷ line 1 1 commit ∷
           line 2 0 ok ∷ write 2 65 6 ∷ line 2 1 commit ∷
-          line 0 33 (value 6) ∷ line 0 1 (abort 2) ∷ [];
+          line 0 33 (value 6) ∷ line 0 1 (abort 2 0) ∷ [];
       end = register (cell 5 1 0 ∷ cell 6 0 1 ∷ []) (rests 0 0 ∷ rests 1 0 ∷ rests 0 1 ∷ []) [];
     } ∷
-    -- K11 H1 commits 1 := 3; H0 reads 1; H2 commits 0 := 4 and 1 := 8; H0 reads 0: abort 1
+    -- K11 H1 commits 1 := 3; H0 reads 1; H2 commits 0 := 4 and 1 := 8; H0 reads 0: abort 1, cell 1
     record {
       start = opened 2 3 37 ok;
       lines =
           line 1 0 ok ∷ write 1 65 3 ∷ line 1 1 commit ∷
           line 0 0 ok ∷ line 0 33 (value 3) ∷
           line 2 0 ok ∷ write 2 64 4 ∷ write 2 65 8 ∷ line 2 1 commit ∷
-          line 0 32 (abort 1) ∷ [];
+          line 0 32 (abort 1 1) ∷ [];
       end = register (cell 4 1 2 ∷ cell 8 1 2 ∷ []) (rests 0 0 ∷ rests 0 1 ∷ rests 1 2 ∷ []) (untouched 2);
     } ∷
     -- K12 a written cell's number 65,534: commit, 65,535
@@ -189,19 +189,19 @@ cases =
       lines = line 0 0 ok ∷ write 0 64 5 ∷ line 0 1 commit ∷ [];
       end = register (cell 5 65535 2 ∷ cell 0 0 0 ∷ []) (rests 65535 2 ∷ []) [];
     } ∷
-    -- at 65,535: abort 3
+    -- at 65,535: abort 3, cell 0
     record {
       start = given (2 ∷ 1 ∷ (cell 0 65535 0 ++ (cell 0 0 0 ++ rests 0 0)));
-      lines = line 0 0 ok ∷ write 0 64 5 ∷ line 0 1 (abort 3) ∷ [];
+      lines = line 0 0 ok ∷ write 0 64 5 ∷ line 0 1 (abort 3 0) ∷ [];
       end = register (cell 0 65535 0 ∷ cell 0 0 0 ∷ []) (rests 0 0 ∷ []) [];
     } ∷
-    -- with a stale read besides: abort 2
+    -- with a stale read besides: abort 2, cell 1
     record {
       start = given (2 ∷ 2 ∷ (cell 0 65535 0 ++ (cell 9 0 1 ++ (rests 4 0 ++ rests 0 0))));
       lines =
           line 0 0 ok ∷ line 0 33 (value 9) ∷ write 0 64 5 ∷
           line 1 0 ok ∷ write 1 65 6 ∷ line 1 1 commit ∷
-          line 0 1 (abort 2) ∷ [];
+          line 0 1 (abort 2 1) ∷ [];
       end = register (cell 0 65535 0 ∷ cell 6 0 2 ∷ []) (rests 4 0 ∷ rests 0 2 ∷ []) [];
     } ∷
     -- K14 H0 commits 1 := 3, H1 0 := 5; H0 reads 0, writes 1 := 7, gives up: abort 5, cells and its numbers as they were. Idle: 14
@@ -210,14 +210,14 @@ cases =
       lines =
           line 0 0 ok ∷ write 0 65 3 ∷ line 0 1 commit ∷
           line 1 0 ok ∷ write 1 64 5 ∷ line 1 1 commit ∷
-          line 0 0 ok ∷ line 0 32 (value 5) ∷ write 0 65 7 ∷ line 0 2 (abort 5) ∷
+          line 0 0 ok ∷ line 0 32 (value 5) ∷ write 0 65 7 ∷ line 0 2 (abort 5 0) ∷
           line 0 2 (refused 14) ∷ line 2 2 (refused 11) ∷ [];
       end = register (cell 5 1 0 ∷ cell 3 0 1 ∷ []) (rests 0 1 ∷ rests 1 0 ∷ []) (untouched 1);
     } ∷
     -- the same, and H0 begins anew
     record {
       start = given (2 ∷ 1 ∷ (cell 5 1 0 ++ (cell 3 0 1 ++ rests 0 1)));
-      lines = line 0 0 ok ∷ line 0 32 (value 5) ∷ write 0 65 7 ∷ line 0 2 (abort 5) ∷ line 0 0 ok ∷ [];
+      lines = line 0 0 ok ∷ line 0 32 (value 5) ∷ write 0 65 7 ∷ line 0 2 (abort 5 0) ∷ line 0 0 ok ∷ [];
       end = register (cell 5 1 0 ∷ cell 3 0 1 ∷ []) ((1 ∷ 0 ∷ 0 ∷ 0 ∷ 1 ∷ 0 ∷ 1 ∷ 0 ∷ 0 ∷ []) ∷ []) [];
     } ∷
     -- besides K5: H1 reads what it wrote before it commits
@@ -235,7 +235,7 @@ cases =
       lines =
           line 0 0 ok ∷ line 0 32 unset ∷ write 0 64 3 ∷ line 0 32 (value 3) ∷
           line 1 0 ok ∷ write 1 64 5 ∷ line 1 1 commit ∷
-          line 0 1 (abort 2) ∷ [];
+          line 0 1 (abort 2 0) ∷ [];
       end = register (cell 5 1 0 ∷ cell 0 0 0 ∷ []) (rests 0 0 ∷ rests 1 0 ∷ []) [];
     } ∷
     -- besides K12: the cell at 65,534 is read before it is written
@@ -247,7 +247,7 @@ cases =
     -- besides K12: what is written at 65,535 is read before the try
     record {
       start = given (2 ∷ 1 ∷ (cell 0 65535 0 ++ (cell 0 0 0 ++ rests 0 0)));
-      lines = line 0 0 ok ∷ write 0 64 5 ∷ line 0 32 (value 5) ∷ line 0 1 (abort 3) ∷ [];
+      lines = line 0 0 ok ∷ write 0 64 5 ∷ line 0 32 (value 5) ∷ line 0 1 (abort 3 0) ∷ [];
       end = register (cell 0 65535 0 ∷ cell 0 0 0 ∷ []) (rests 0 0 ∷ []) [];
     } ∷
     -- besides K12: the same with a stale read
@@ -256,7 +256,7 @@ cases =
       lines =
           line 0 0 ok ∷ line 0 33 (value 9) ∷ write 0 64 5 ∷ line 0 32 (value 5) ∷
           line 1 0 ok ∷ write 1 65 6 ∷ line 1 1 commit ∷
-          line 0 1 (abort 2) ∷ [];
+          line 0 1 (abort 2 1) ∷ [];
       end = register (cell 0 65535 0 ∷ cell 6 0 2 ∷ []) (rests 4 0 ∷ rests 0 2 ∷ []) [];
     } ∷
     -- a cell that was written as 0 reads as 0, and one that was never written as unset, until the transaction itself writes it
@@ -273,6 +273,31 @@ cases =
       start = given (2 ∷ 1 ∷ (cell 9 0 0 ++ (cell 8 0 0 ++ (1 ∷ 1 ∷ 0 ∷ 0 ∷ 0 ∷ 0 ∷ 0 ∷ 7 ∷ 6 ∷ []))));
       lines = line 0 32 unset ∷ line 0 33 unset ∷ line 0 33 unset ∷ [];
       end = register (cell 9 0 0 ∷ cell 8 0 0 ∷ []) ((1 ∷ 3 ∷ 0 ∷ 0 ∷ 0 ∷ 0 ∷ 0 ∷ 7 ∷ 8 ∷ []) ∷ []) [];
+    } ∷
+    -- where several cells meet the condition, the lowest is named, in whatever order they were read: H0 reads 1, then 0; H1 commits 0 and 1
+    record {
+      start = opened 2 2 26 ok;
+      lines =
+          line 0 0 ok ∷ line 0 33 unset ∷ line 0 32 unset ∷
+          line 1 0 ok ∷ write 1 65 7 ∷ write 1 64 5 ∷ line 1 1 commit ∷
+          line 0 1 (abort 2 0) ∷ [];
+      end = register (cell 5 1 1 ∷ cell 7 1 1 ∷ []) (rests 0 0 ∷ rests 1 1 ∷ []) [];
+    } ∷
+    -- the same of two spent cells
+    record {
+      start = given (2 ∷ 1 ∷ (cell 0 65535 0 ++ (cell 0 0 65535 ++ rests 0 0)));
+      lines = line 0 0 ok ∷ write 0 65 6 ∷ write 0 64 5 ∷ line 0 1 (abort 3 0) ∷ [];
+      end = register (cell 0 65535 0 ∷ cell 0 0 65535 ∷ []) (rests 0 0 ∷ []) [];
+    } ∷
+    -- and of a read: H0 has read 2 and 1 of three cells, H1 commits all, and H0 reads 0: abort 1, cell 1
+    record {
+      start = opened 3 2 38 ok;
+      lines =
+          line 0 0 ok ∷ line 0 34 unset ∷ line 0 33 unset ∷
+          line 1 0 ok ∷ write 1 64 5 ∷ write 1 65 7 ∷ write 1 66 9 ∷ line 1 1 commit ∷
+          line 0 32 (abort 1 1) ∷ [];
+      end = register ((5 ∷ 1 ∷ 1 ∷ 1 ∷ []) ∷ (7 ∷ 1 ∷ 1 ∷ 1 ∷ []) ∷ (9 ∷ 1 ∷ 1 ∷ 1 ∷ []) ∷ [])
+          (replicate 12 0 ∷ (0 ∷ 0 ∷ 0 ∷ 1 ∷ 1 ∷ 1 ∷ replicate 6 0) ∷ []) [];
     } ∷
     -- words 0 and 1 huge
     record {

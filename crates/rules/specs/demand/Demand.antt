@@ -5,6 +5,7 @@ use mathlib.Core.Path.{_≡_}
 use mathlib.Core.Bool.{true, false}
 use mathlib.Core.List.{List, [], _∷_}
 use mathlib.Core.Logic.{_↔_}
+use Rattle.rules.specs.steps.Tables.{LowestOf}
 use Rattle.rules.specs.steps.Codes.{known, read}
 use Rattle.rules.specs.steps.Replies.{torn, Outcome, aborted, Reply, reported}
 use Rattle.rules.specs.steps.Register.{Setting, Register, fresh}
@@ -62,11 +63,11 @@ pub record FirstRead {W : Type 0} (S : Setting W) (n : ℕ) (h : History W) (i c
 pub record Consistent {W : Type 0} (S : Setting W) (n : ℕ) (r : Register W) (h : History W) : Type 0 where
   -- (a) and (b), with what the cells show as the table that the history leads to;
   pub legal : Legal h (λ x. cellShows x (r .cells x))
-  -- (c) a first read is answered abort 1 exactly when the writer of the cell's present value, or a commit in that writer's
-  -- causal past, wrote a later version than one already read
-  pub tornExactly : (i code x : ℕ) (v : W) → FirstRead S n h i code x
-      → (turn S n true r i code v .reply ≡ reportedTo i code (aborted torn))
-      ↔ Tears (h .commits) (h .now i) (writer (h .commits) x)
+  -- (c) a first read is answered abort 1 and names the cell y exactly when y is the lowest cell already read of which the writer of the
+  -- present value, or a commit in that writer's causal past, wrote a later version than the one read
+  pub tornExactly : (i code x y : ℕ) (v : W) → FirstRead S n h i code x
+      → (turn S n true r i code v .reply ≡ reportedTo i code (aborted (torn y)))
+      ↔ LowestOf (Tears (h .commits) (h .now i) (writer (h .commits) x)) y
 
 -- THE THIRD DEMAND, of every kind of value, number of cells, code sheet, number of handlers, and list of steps from a fresh register.
 abbrev pub ThirdDemand : Type 1

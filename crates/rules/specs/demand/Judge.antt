@@ -6,16 +6,16 @@ use mathlib.Core.List.{List, [], _∷_}
 use mathlib.Core.Logic.{_↔_}
 use mathlib.Core.Option.{Option, none, some}
 use lib.Dec.{eqb}
-use Rattle.rules.specs.steps.Tables.{if_then_else_, put, someBelow}
+use Rattle.rules.specs.steps.Tables.{if_then_else_, put, lowest, LowestOf}
 use Rattle.rules.specs.steps.Codes.{Step, begin, try, giveUp, read, write, Kind, known, unknown}
 use Rattle.rules.specs.steps.Replies.{Reason, torn, overtaken, spent, gaveUp, Content, unset, value, Outcome, ok, shows, committed, aborted}
 use Rattle.rules.specs.steps.Replies.{Refusal, unknownStep, Reply}
 use Rattle.rules.specs.steps.Register.{Setting, Register}
-use Rattle.rules.specs.steps.Checks.{_when_, firstHit, Asked, asking, stepChecks}
+use Rattle.rules.specs.steps.Checks.{_naming_, firstHit, Asked, asking, stepChecks}
 use Rattle.rules.specs.steps.Turn.{turn}
 use Rattle.rules.specs.history.History.{Deed, look, again, set, Commit, History, someLook, hasRead, hasWritten}
 use Rattle.rules.specs.history.History.{placeAfter, writer, everyCommit}
-use Rattle.rules.specs.history.Past.{Stands, upTo, tears}
+use Rattle.rules.specs.history.Past.{Stands, upTo, tearsAt}
 use Rattle.rules.specs.history.Replay.{replay}
 use Rattle.rules.specs.demand.Demand.{Ask, reportedTo, start, run}
 
@@ -61,14 +61,14 @@ module _ {W : Type 0} (S : Setting W) where
   unfoldable pub answerRead : List (Commit W) → List (Deed W) → ℕ → Outcome W
   answerRead commits deeds x =
       if hasRead deeds x || hasWritten deeds x then (shows (copied deeds x))
-      else (orAborted (firstHit ((torn when tears (S .cellCount) commits deeds (writer commits x)) ∷ []))
+      else (orAborted (firstHit ((torn naming tearsAt (S .cellCount) commits deeds (writer commits x)) ∷ []))
       (shows (replay commits everyCommit x)))
 
   -- The answer to a try: abort 2, or abort 3, or commit.
   unfoldable pub answerTry : List (Commit W) → List (Deed W) → Outcome W
   answerTry commits deeds =
-      orAborted (firstHit ((overtaken when someBelow (S .cellCount) (stale commits deeds)) ∷
-      (spent when someBelow (S .cellCount) (full commits deeds)) ∷ [])) committed
+      orAborted (firstHit ((overtaken naming lowest (S .cellCount) (stale commits deeds)) ∷
+      (spent naming lowest (S .cellCount) (full commits deeds)) ∷ [])) committed
 
   -- The answer to a step of handler i.
   unfoldable pub answer : History W → ℕ → Step → Outcome W
@@ -94,22 +94,31 @@ module _ {W : Type 0} (S : Setting W) where
 
 -- ── What is told ──────────────────────────────────────────────────────
 
--- A version that these deeds read from the cells is no longer the present one.
-pub record Overtaken {W : Type 0} (commits : List (Commit W)) (deeds : List (Deed W)) : Type 0 where
-  pub cell : ℕ
+-- The version of the cell that these deeds read from the cells is no longer the present one.
+pub record Overtaken {W : Type 0} (commits : List (Commit W)) (deeds : List (Deed W)) (cell : ℕ) : Type 0 where
   pub source : ℕ
   pub value : Content W
   pub sooner : List (Deed W)
   pub reads : Stands deeds (look cell source value) sooner
   pub passed : source ≡ writer commits cell → ⊥
 
+-- These deeds wrote the cell, which has had 65,535 versions.
+pub record Exhausted {W : Type 0} (commits : List (Commit W)) (deeds : List (Deed W)) (cell : ℕ) : Type 0 where
+  pub writes : hasWritten deeds cell ≡ true
+  pub versions : versionCount commits cell ≡ 65535
+
 -- The history tells of a register:
 pub record Told {W : Type 0} (S : Setting W) (n : ℕ) (r : Register W) (h : History W) : Type 0 where
   -- each reply, refused or reported;
   pub replies : (i code : ℕ) (v : W) → turn S n true r i code v .reply ≡ judgement S n h i code
-  -- abort 2, to a try of an open transaction, exactly when a version read is no longer the present one;
-  pub overtakenExactly : (i code : ℕ) (v : W) → i < n → S .sheet code ≡ known try → h .opened i ≡ true
-      → (turn S n true r i code v .reply ≡ reportedTo i code (aborted overtaken)) ↔ Overtaken (h .commits) (h .now i)
+  -- abort 2 and the cell y, to a try of an open transaction, exactly when y is the lowest cell of which the version read is no longer the
+  -- present one;
+  pub overtakenExactly : (i code y : ℕ) (v : W) → i < n → S .sheet code ≡ known try → h .opened i ≡ true
+      → (turn S n true r i code v .reply ≡ reportedTo i code (aborted (overtaken y))) ↔ LowestOf (Overtaken (h .commits) (h .now i)) y
+  -- abort 3 and the cell y exactly when there is no such cell, and y is the lowest one written that has had 65,535 versions;
+  pub spentExactly : (i code y : ℕ) (v : W) → i < n → S .sheet code ≡ known try → h .opened i ≡ true
+      → (turn S n true r i code v .reply ≡ reportedTo i code (aborted (spent y)))
+      ↔ (((z : ℕ) → Overtaken (h .commits) (h .now i) z → ⊥) × LowestOf (Exhausted (h .commits) (h .now i)) y)
   -- a cell's number for y: that of the latest version of y in the cell's writer and that one's past
   pub numbers : (x y : ℕ) → r .cells x .numbers y ≡ numberAmong (h .commits) (upTo (h .commits) (writer (h .commits) x)) y
 

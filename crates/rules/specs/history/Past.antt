@@ -4,8 +4,9 @@ use Prim.Native.Nat.{ℕ, _<_}
 use mathlib.Core.Path.{_≡_}
 use mathlib.Core.Bool.{Bool, true, false, _&&_, _||_}
 use mathlib.Core.List.{List, [], _∷_}
+use mathlib.Core.Option.{Option}
 use lib.Dec.{eqb, ltb}
-use Rattle.rules.specs.steps.Tables.{if_then_else_, someBelow}
+use Rattle.rules.specs.steps.Tables.{if_then_else_, lowest}
 use Rattle.rules.specs.steps.Replies.{Content}
 use Rattle.rules.specs.history.History.{Deed, look, Commit, someLook, hasWritten, placeAfter}
 
@@ -55,9 +56,9 @@ pub record Outdated {W : Type 0} (commits : List (Commit W)) (Included : ℕ →
   pub reads : Stands deeds (look y source value) sooner
   pub passed : Later commits Included y source
 
--- The commit k, or a commit in its causal past, wrote a later version than one that these deeds read.
-abbrev pub Tears : {W : Type 0} → List (Commit W) → List (Deed W) → ℕ → Type 0
-Tears commits deeds k = (y : ℕ) × Outdated commits (UpTo commits k) deeds y
+-- The commit k, or a commit in its causal past, wrote a later version of the cell y than the one that these deeds read.
+abbrev pub Tears : {W : Type 0} → List (Commit W) → List (Deed W) → ℕ → ℕ → Type 0
+Tears commits deeds k y = Outdated commits (UpTo commits k) deeds y
 
 -- ── As they are computed ──────────────────────────────────────────────
 
@@ -100,6 +101,6 @@ module _ {W : Type 0} where
   unfoldable pub outdated : List (Commit W) → (ℕ → Bool) → List (Deed W) → ℕ → Bool
   outdated commits included deeds y = someLook (λ z source. eqb y z && later commits included z source) deeds
 
-  -- The commit k, or a commit in its past, wrote a later version than one that these deeds read, of m cells.
-  unfoldable pub tears : ℕ → List (Commit W) → List (Deed W) → ℕ → Bool
-  tears m commits deeds k = someBelow m (outdated commits (upTo commits k) deeds)
+  -- The lowest of m cells of which the commit k, or a commit in its past, wrote a later version than the one that these deeds read, if there is one.
+  unfoldable pub tearsAt : ℕ → List (Commit W) → List (Deed W) → ℕ → Option ℕ
+  tearsAt m commits deeds k = lowest m (outdated commits (upTo commits k) deeds)

@@ -5,7 +5,7 @@ use mathlib.Core.Bool.{Bool, true, false, not, _&&_}
 use mathlib.Core.List.{List, [], _∷_}
 use mathlib.Core.Option.{Option, none, some}
 use lib.Dec.{ltb, leb}
-use Rattle.rules.specs.steps.Tables.{if_then_else_}
+use Rattle.rules.specs.steps.Tables.{if_then_else_, isFound, placeOf}
 use Rattle.rules.specs.steps.Codes.{begin, try, giveUp, read, write, Kind, known, unknown}
 use Rattle.rules.specs.steps.Replies.{Refusal, notWellFormed, noHandler, noCell, alreadyOpen, notOpen, unknownStep, outOfRange, tooShort}
 
@@ -18,6 +18,11 @@ infix 30 _when_
 -- A check, written as it is read.
 abbrev pub _when_ : {A : Type 0} → A → Bool → Check A
 a when b = record { says = a; holds = b }
+
+infix 30 _naming_
+-- A check that holds where a place was found, and names it.
+abbrev pub _naming_ : {A : Type 0} → (ℕ → A) → Option ℕ → Check A
+a naming place = record { says = a (placeOf place); holds = isFound place }
 
 -- What the first check that holds says, if one holds.
 unfoldable pub firstHit : {A : Type 0} → List (Check A) → Option A

@@ -4,11 +4,11 @@ use mathlib.Core.Bool.{Bool, true, not, _&&_, _||_}
 use mathlib.Core.List.{List, [], _∷_}
 use mathlib.Core.Option.{Option, none, some}
 use lib.Dec.{eqb, ltb}
-use Rattle.rules.specs.steps.Tables.{if_then_else_, put, someBelow}
+use Rattle.rules.specs.steps.Tables.{if_then_else_, put, lowest}
 use Rattle.rules.specs.steps.Codes.{Step, begin, try, giveUp, read, write}
 use Rattle.rules.specs.steps.Replies.{Reason, torn, overtaken, spent, gaveUp, Content, unset, value, Outcome, ok, shows, committed, aborted}
 use Rattle.rules.specs.steps.Register.{Setting, Cell, Handler, Register, withHandler, noCells, idle}
-use Rattle.rules.specs.steps.Checks.{Check, _when_, firstHit}
+use Rattle.rules.specs.steps.Checks.{Check, _naming_, firstHit}
 
 -- What a step comes to, and the register that it leaves.
 pub record Result (W : Type 0) : Type 0 where
@@ -82,17 +82,17 @@ module _ {W : Type 0} (S : Setting W) where
     copies = λ _. S .empty;
   }
 
-  -- Line 04: some cell Y of the read set has a transaction number below X's dependency number for Y.
-  unfoldable pub isTorn : Handler W → Cell W → Bool
-  isTorn h c = someBelow (S .cellCount) (λ y. h .readSet y && ltb (h .transaction y) (c .numbers y))
+  -- Line 04: the lowest cell Y of the read set with a transaction number below X's dependency number for Y, if there is one.
+  unfoldable pub tornCell : Handler W → Cell W → Option ℕ
+  tornCell h c = lowest (S .cellCount) (λ y. h .readSet y && ltb (h .transaction y) (c .numbers y))
 
-  -- Lines 10 and 12: some Z of the read set has a transaction number other than Z's own number.
-  unfoldable pub isOvertaken : Register W → Handler W → Bool
-  isOvertaken r h = someBelow (S .cellCount) (λ z. h .readSet z && not (eqb (h .transaction z) (r .cells z .numbers z)))
+  -- Lines 10 and 12: the lowest Z of the read set with a transaction number other than Z's own number, if there is one.
+  unfoldable pub overtakenCell : Register W → Handler W → Option ℕ
+  overtakenCell r h = lowest (S .cellCount) (λ z. h .readSet z && not (eqb (h .transaction z) (r .cells z .numbers z)))
 
-  -- Abort 3, after line 12's check: a written cell's own number is 65,535.
-  unfoldable pub isSpent : Register W → Handler W → Bool
-  isSpent r h = someBelow (S .cellCount) (λ z. h .writtenSet z && eqb (r .cells z .numbers z) 65535)
+  -- Abort 3, after line 12's check: the lowest written cell with 65,535 as its own number, if there is one.
+  unfoldable pub spentCell : Register W → Handler W → Option ℕ
+  spentCell r h = lowest (S .cellCount) (λ z. h .writtenSet z && eqb (r .cells z .numbers z) 65535)
 
   -- An abort leaves the cells and the handler's numbers as before.
   unfoldable pub aborting : Register W → ℕ → Handler W → Register W
@@ -113,13 +113,13 @@ module _ {W : Type 0} (S : Setting W) where
 
   -- The check of a first read, by a transaction that X has joined.
   unfoldable pub readChecks : Handler W → Cell W → List (Check Reason)
-  readChecks h c = (torn when isTorn h c) ∷ []
+  readChecks h c = (torn naming tornCell h c) ∷ []
 
   -- The checks of a try, in their order.
   unfoldable pub tryChecks : Register W → Handler W → List (Check Reason)
   tryChecks r h =
-      (overtaken when isOvertaken r h) ∷
-      (spent when isSpent r h) ∷ []
+      (overtaken naming overtakenCell r h) ∷
+      (spent naming spentCell r h) ∷ []
 
   -- The first read of X, whose cell is c.
   unfoldable pub firstRead : Register W → ℕ → Handler W → ℕ → Cell W → Result W

@@ -1,16 +1,18 @@
 -- Replies: outcomes with their reasons, refusals, and docs/RULES.md's numbers for them. Nothing of a reply is lost in its
 -- numbers (proofs/Numbers.antt).
 use Prim.Native.Nat.{ℕ}
+use mathlib.Core.Option.{Option, none, some}
+use Rattle.rules.specs.steps.Tables.{placeOf}
 
--- Why a transaction was aborted.
+-- Why a transaction was aborted, and by which cell: the lowest that meets the condition.
 pub data Reason : Type 0 where
-  -- the value read depends on a later version of a cell already read
-  torn : Reason
-  -- a cell that was read has been written since
-  overtaken : Reason
-  -- a written cell's number can't be raised
-  spent : Reason
-  -- its handler gave it up
+  -- the value read depends on a later version of this cell, which was already read
+  torn : ℕ → Reason
+  -- this cell was read, and has been written since
+  overtaken : ℕ → Reason
+  -- this cell was written, and its number can't be raised
+  spent : ℕ → Reason
+  -- its handler gave it up, whatever the cells
   gaveUp : Reason
 
 -- What is shown of a cell: nothing where it was never written, and else its value.
@@ -54,10 +56,17 @@ pub data Opening : Type 0 where
 
 -- The number of an abort's reason.
 abbrev pub reasonNumber : Reason → ℕ
-reasonNumber torn = 1
-reasonNumber overtaken = 2
-reasonNumber spent = 3
+reasonNumber (torn y) = 1
+reasonNumber (overtaken y) = 2
+reasonNumber (spent y) = 3
 reasonNumber gaveUp = 5
+
+-- The cell that an abort's reason names, if it names one.
+abbrev pub reasonCell : Reason → Option ℕ
+reasonCell (torn y) = some y
+reasonCell (overtaken y) = some y
+reasonCell (spent y) = some y
+reasonCell gaveUp = none
 
 -- The number of a refusal.
 abbrev pub refusalNumber : Refusal → ℕ
@@ -75,26 +84,28 @@ refusalNumber tooManyCommits = 33
 refusalNumber sheetFull = 41
 refusalNumber noRoom = 42
 
--- An answer in numbers: its kind (0 ok, 1 value, 2 commit, 3 abort, 4 refused, 5 unset), and its value or number, 0 where there is none.
+-- An answer in numbers: its kind (0 ok, 1 value, 2 commit, 3 abort, 4 refused, 5 unset), its value or number, and the cell that it names;
+-- each 0 where there is none.
 pub record Numbers : Type 0 where
   pub kind : ℕ
   pub detail : ℕ
+  pub cell : ℕ
 
 -- What is shown of a cell, in numbers.
 abbrev pub contentNumbers : Content ℕ → Numbers
-contentNumbers (value v) = record { kind = 1; detail = v }
-contentNumbers unset = record { kind = 5; detail = 0 }
+contentNumbers (value v) = record { kind = 1; detail = v; cell = 0 }
+contentNumbers unset = record { kind = 5; detail = 0; cell = 0 }
 
 -- An outcome in numbers, where the values are numbers.
 abbrev pub outcomeNumbers : Outcome ℕ → Numbers
-outcomeNumbers ok = record { kind = 0; detail = 0 }
+outcomeNumbers ok = record { kind = 0; detail = 0; cell = 0 }
 outcomeNumbers (shows content) = contentNumbers content
-outcomeNumbers committed = record { kind = 2; detail = 0 }
-outcomeNumbers (aborted reason) = record { kind = 3; detail = reasonNumber reason }
+outcomeNumbers committed = record { kind = 2; detail = 0; cell = 0 }
+outcomeNumbers (aborted reason) = record { kind = 3; detail = reasonNumber reason; cell = placeOf (reasonCell reason) }
 
 -- A refusal in numbers.
 abbrev pub refusalNumbers : Refusal → Numbers
-refusalNumbers refusal = record { kind = 4; detail = refusalNumber refusal }
+refusalNumbers refusal = record { kind = 4; detail = refusalNumber refusal; cell = 0 }
 
 -- A reply in numbers.
 abbrev pub replyNumbers : Reply ℕ → Numbers

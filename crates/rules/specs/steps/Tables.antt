@@ -1,6 +1,6 @@
 -- Tables, and tests over the places of a table. A table is a function from places: it has no length, and what is looked for
 -- among cells is looked for below a given number of places.
-use Prim.Native.Nat.{ℕ, zero, suc}
+use Prim.Native.Nat.{ℕ, zero, suc, _<_}
 use mathlib.Core.Bool.{Bool, true, false}
 use mathlib.Core.Option.{Option, none, some}
 use lib.Dec.{eqb}
@@ -31,6 +31,16 @@ abbrev pub isFound {ℓ} : {A : Type ℓ} → Option A → Bool
 isFound none = false
 isFound (some a) = true
 
+-- The place that was found; 0 where none was.
+abbrev pub placeOf : Option ℕ → ℕ
+placeOf none = 0
+placeOf (some y) = y
+
 -- Some place below m passes the test.
 unfoldable pub someBelow : ℕ → (ℕ → Bool) → Bool
 someBelow m test = isFound (lowest m test)
+
+-- The lowest place that meets a condition.
+pub record LowestOf (Meets : ℕ → Type 0) (y : ℕ) : Type 0 where
+  pub meets : Meets y
+  pub least : (z : ℕ) → z < y → Meets z → ⊥

@@ -8,7 +8,7 @@ use lib.Dec.{eqb}
 use lib.ListN.{getD}
 use borrow.Author.Tests.{eq-eqb, ne-eqb}
 use Rattle.layout.specs.Places.{ownAt}
-use Rattle.searches.proofs.Cells.{Searched, Looked, search-begins, search-misses, cell-inside, own-inside, search-hits, search-goes}
+use Rattle.searches.proofs.Cells.{Searched, Looked, search-begins, search-misses, cell-inside, own-inside, search-finds, search-goes}
 use Rattle.searches.proofs.overtaken.Statement.{statement}
 use Rattle.searches.proofs.overtaken.Tie as tie
 
@@ -44,7 +44,8 @@ overtaken-spec =
     (λ c. omega (arith, own-inside (looked (c .before .before))))
     (λ c. omega (arith, own-inside (looked (c .before .before .before))))
     -- the cell passes
-    (λ c. let own = c .before .before .before in search-hits (looked (own .before)) (ap not (ne-eqb _ _ (rw (own .own-number .ensures) at (c .if1 .taken)))))
+    (λ c. let at = looked (c .before .before .before .before) in record { fits = omega (arith, cell-inside at, at .among .few) })
+    (λ c. let own = c .before .before .before in search-finds (looked (own .before)) (ap not (ne-eqb _ _ (rw (own .own-number .ensures) at (c .if1 .taken)))))
     -- it fails, and is taken out of what is left
     (λ c κs. let least = c .before .before .before .before .lowest .ensures in (least .low, least .inside))
     (λ c. c .without .ensures .less)

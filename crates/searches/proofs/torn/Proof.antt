@@ -6,7 +6,7 @@ use native.Mathlib.Omega.{arith}
 use lib.Dec.{ltb}
 use lib.ListN.{getD}
 use borrow.Author.Tests.{lt-ltb, le-ltb}
-use Rattle.searches.proofs.Cells.{Searched, Looked, search-begins, search-misses, cell-inside, search-hits, search-goes}
+use Rattle.searches.proofs.Cells.{Searched, Looked, search-begins, search-misses, cell-inside, search-finds, search-goes}
 use Rattle.searches.proofs.torn.Statement.{statement}
 use Rattle.searches.proofs.torn.Tie as tie
 
@@ -42,7 +42,8 @@ torn-spec =
     (λ c. omega (arith, cell-inside (looked (c .before))))
     (λ c. omega (arith, cell-inside (looked (c .before .before))))
     -- the cell passes
-    (λ c. search-hits (looked (c .before .before .before)) (lt-ltb _ _ (c .if1 .taken)))
+    (λ c. let at = looked (c .before .before .before) in record { fits = omega (arith, cell-inside at, at .among .few) })
+    (λ c. search-finds (looked (c .before .before .before)) (lt-ltb _ _ (c .if1 .taken)))
     -- it fails, and is taken out of what is left
     (λ c κs. let least = c .before .before .before .lowest .ensures in (least .low, least .inside))
     (λ c. c .without .ensures .less)

@@ -7,13 +7,13 @@ use reference::judge::{self, Judged, MOST};
 use reference::random::Random;
 use reference::register::Reply;
 use reference::schedule;
-use reference::{generate, histories, program};
+use reference::{aborts, generate, histories, program};
 use std::ffi::OsStr;
 use std::path::Path;
 use std::process::exit;
 use std::time::Instant;
 
-/// What the random files have to meet besides the kinds of read, each at least once.
+/// What the random files have to meet besides the kinds of read and the choices of a cell, each at least once.
 const KINDS: [&str; 23] = [
     "ok",
     "commit",
@@ -82,13 +82,14 @@ impl Comparison {
             (false, _) => "file of 1 to 63 commits",
         });
         history.links.iter().for_each(|&links| counts.note(LINKS[links.min(3)]));
+        counts.choices(&history);
         let mut noted = 0;
         for line in run.lines {
             match line.reply {
                 Reply::Commit => noted += 1,
-                Reply::Abort(1) if noted == MOST => counts.note("abort 1 after 64 commits"),
-                Reply::Abort(2) if noted == MOST => counts.note("abort 2 after 64 commits"),
-                Reply::Abort(5) if noted == MOST => counts.note("abort 5 after 64 commits"),
+                Reply::Abort { reason: 1, .. } if noted == MOST => counts.note("abort 1 after 64 commits"),
+                Reply::Abort { reason: 2, .. } if noted == MOST => counts.note("abort 2 after 64 commits"),
+                Reply::Abort { reason: 5, .. } if noted == MOST => counts.note("abort 5 after 64 commits"),
                 Reply::Ok | Reply::Value(_) | Reply::Unset if noted == MOST => counts.note("other step after 64 commits"),
                 Reply::Refused(number) if noted == MOST && number < 33 => counts.note("refusal after 64 commits"),
                 _ => (),
@@ -186,8 +187,10 @@ fn main() {
         ["line", "abort 1", "abort 2", "refused 33", "file of exactly 64 commits"].map(|name| counts.of(name));
     println!("{sound} sound and {damaged} damaged files, {lines} lines, {aborts_1} aborts 1, {aborts_2} aborts 2, no difference");
     println!("{cut} files cut at a 65th commit, {full} of exactly 64 commits");
+    let of_several = [1, 2].map(|reason| counts.of(&format!("abort {reason} of the lowest of several cells")));
+    println!("{} aborts 1 and {} aborts 2 had more than one cell to name", of_several[0], of_several[1]);
     println!("each kind: {}", counts.shown());
-    let lacking = counts.lacking(&[&KINDS[..], &LINKS[..], &READS[..]].concat());
+    let lacking = counts.lacking(&[&KINDS[..], &LINKS[..], &READS[..], &aborts::in_files()].concat());
     if !lacking.is_empty() {
         fail(&format!("the random files had no {}", lacking.join(", no ")));
     }

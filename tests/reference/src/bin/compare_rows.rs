@@ -1,11 +1,11 @@
 //! Compares the proved row of steps, `zidlemowo_row`, with this crate's: the same steps on the same words into the same words for reports,
 //! the number given and every word compared, with sentinel words around all three. Arguments: a seed, how many rows.
-use reference::counts::Counts;
+use reference::counts::{name, Counts};
 use reference::random::Random;
 use reference::reads::{self, READS};
 use reference::register::Reply;
 use reference::row::{self, REPORT_WORDS, STEP_WORDS};
-use reference::{proved, register, registers};
+use reference::{aborts, proved, register, registers};
 use std::process::exit;
 
 /// What a comparison has to meet, or it shows nothing of it.
@@ -36,7 +36,7 @@ const NEEDED: [&str; 29] = [
     "exactly as many words as the reports need",
     "42, a word too few",
     "42, place beyond the end and no step",
-    "42, place + 4 · steps wraps",
+    "42, place + 5 · steps wraps",
     "42, place in bytes wraps",
     "10 where 42 holds too",
 ];
@@ -156,7 +156,7 @@ fn note(met: &mut Counts, given: &Given, after: &Given, number: u32) {
         0 if given.place + count * REPORT_WORDS == long => met.note("exactly as many words as the reports need"),
         10 if !fits => met.note("10 where 42 holds too"),
         42 if given.place.checked_add(count * REPORT_WORDS) == Some(long + 1) => met.note("42, a word too few"),
-        42 if given.place.checked_add(count * REPORT_WORDS).is_none() => met.note("42, place + 4 · steps wraps"),
+        42 if given.place.checked_add(count * REPORT_WORDS).is_none() => met.note("42, place + 5 · steps wraps"),
         42 if given.place.checked_mul(4).is_none() => met.note("42, place in bytes wraps"),
         _ => (),
     }
@@ -165,18 +165,21 @@ fn note(met: &mut Counts, given: &Given, after: &Given, number: u32) {
     }
     if number == 0 {
         reported(met, given.steps.words(), &after.reports.words()[given.place..]);
-        read(met, given);
+        taken(met, given);
     }
 }
 
-/// Which words the reads of a row found, step by step as this crate takes them.
-fn read(met: &mut Counts, given: &Given) {
+/// Which words the reads of a row found, and which cells its aborts chose from, step by step as this crate takes them.
+fn taken(met: &mut Counts, given: &Given) {
     let mut words = given.register.words().to_vec();
     for step in given.steps.words().chunks_exact(STEP_WORDS) {
         let before = words.clone();
         let reply = register::formed_step(&mut words, step[0], step[1], step[2]);
         if let Some(read) = reads::name(&before, step[0], step[1], reply) {
             met.note(read);
+        }
+        if let Some(choice) = aborts::choice(&before, step[0], step[1], reply) {
+            choice.names().iter().for_each(|name| met.note(name));
         }
     }
 }
@@ -197,11 +200,11 @@ fn reported(met: &mut Counts, steps: &[u32], reports: &[u32]) {
             0 => Reply::Ok,
             1 => Reply::Value(report[3]),
             2 => Reply::Commit,
-            3 => Reply::Abort(report[3]),
+            3 => Reply::Abort { reason: report[3], cell: Some(report[4]) },
             4 => Reply::Refused(report[3]),
             _ => Reply::Unset,
         };
-        met.note(if let Reply::Value(1..) = reply { "value".into() } else { reply.to_string() }.as_str());
+        met.note(&name(reply));
     }
 }
 
@@ -256,7 +259,7 @@ fn main() {
             Given { register: Lent::of(&left.0), steps: Lent::of(&steps), reports: Lent::of(&reports), place: place_of_reports };
         left.0 = compare(&mut met, &format!("seed {seed}, row {place}"), &given);
     }
-    let lacking = met.lacking(&[&NEEDED[..], &READS[..]].concat());
+    let lacking = met.lacking(&[&NEEDED[..], &READS[..], &aborts::in_rows()].concat());
     if !lacking.is_empty() {
         println!("seed {seed}: never met, so that nothing is shown of it: {}", lacking.join("; "));
         exit(1);

@@ -1,9 +1,9 @@
 //! Compares a proved runner with this crate's, line for line, on schedule files at the borders and on random ones, which have to show unset
-//! and 0 in each kind of read and in cells at the end.
+//! and 0 in each kind of read and in cells at the end, and each way in which an abort chooses the cell that it names, up to a 65th commit.
 //! Arguments: the runner's path, a seed, how many sound files, how many damaged ones.
 use reference::counts::{Counts, READS};
 use reference::random::Random;
-use reference::{generate, lines, program, runner};
+use reference::{aborts, generate, judge, lines, program, runner};
 use std::process::exit;
 
 /// The files at borders, the sound ones and the damaged ones, one after another; then one line that counts the replies.
@@ -26,11 +26,13 @@ fn main() {
         };
         let run = runner::run(&file);
         counts.answers(run.as_ref());
+        // Which cells an abort chose from, this crate's judge says.
+        judge::run(&file).iter().for_each(|(_, history)| counts.choices(history));
         let printed = program::printed_by(proved, &file, program::piece(&mut random, &file));
         let what = format!("seed {seed}, file {place} ({kind})");
         program::demand(&what, &file, &printed, "reference", &lines::shown(run.as_ref()));
     }
-    let lacking = counts.lacking(&READS);
+    let lacking = counts.lacking(&[&READS[..], &aborts::in_files()].concat());
     if !lacking.is_empty() {
         println!("seed {seed}: never met, so that nothing is shown of it: {}", lacking.join(", "));
         exit(1);

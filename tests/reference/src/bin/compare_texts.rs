@@ -1,10 +1,10 @@
 //! Compares the proved whole runs, `zidlemowo_run` and `zidlemowo_judge`, with this crate's runner and judge: the same files, each
 //! into an output of some length, the length given and every byte of the output compared. The texts have to show unset and 0 in each kind of
-//! read and in cells at the end.
+//! read and in cells at the end, and each way in which an abort chooses the cell that it names.
 //! Arguments: a seed, how many sound files, how many damaged ones.
 use reference::counts::{self, READS};
 use reference::random::Random;
-use reference::{generate, hexadecimal, histories, judge, lines, proved, runner};
+use reference::{aborts, generate, hexadecimal, histories, judge, lines, proved, runner};
 use std::process::exit;
 
 /// What fills an output before a call. No text has such a byte.
@@ -77,9 +77,11 @@ fn main() {
         let run = runner::run(&file);
         met.answers(run.as_ref());
         counts.compare(&mut random, &format!("{what}, run"), &file, lines::shown(run.as_ref()).as_bytes(), proved::run);
-        counts.compare(&mut random, &format!("{what}, judged"), &file, judge::printed(&file).as_bytes(), proved::judge);
+        let judged = judge::run(&file);
+        judged.iter().for_each(|(_, history)| met.choices(history));
+        counts.compare(&mut random, &format!("{what}, judged"), &file, judge::shown(&judged).as_bytes(), proved::judge);
     }
-    let lacking = met.lacking(&READS);
+    let lacking = met.lacking(&[&READS[..], &aborts::in_files()].concat());
     if !lacking.is_empty() {
         println!("seed {seed}: never met, so that nothing is shown of it: {}", lacking.join(", "));
         exit(1);

@@ -1,17 +1,21 @@
 //! Compares the proved register with this crate's, word for word: the same random words and steps, every reply and every word. Each kind of
-//! read has to be met, of cells and copies that are unset and of ones that are 0. Arguments: a seed, how many well-formed registers, how many
-//! malformed ones.
+//! read has to be met, of cells and copies that are unset and of ones that are 0, and each way in which an abort chooses the cell that it names.
+//! Arguments: a seed, how many well-formed registers, how many malformed ones.
 use reference::counts::Counts;
 use reference::random::Random;
 use reference::reads::{self, READS};
-use reference::{proved, register, registers};
+use reference::{aborts, proved, register, registers};
 use std::fmt::Arguments;
 use std::process::exit;
 
 /// The size of a register: cells, and handlers.
 fn size(random: &mut Random) -> (u32, u32) {
-    let m = if random.once_in(3) { random.within(1, 3) } else { random.within(1, 32) } as u32;
-    (m, random.within(1, 16) as u32)
+    let m = match random.below(8) {
+        0..=2 => random.within(1, 3),
+        3 => 32,
+        _ => random.within(1, 32),
+    };
+    (m as u32, random.within(1, 16) as u32)
 }
 
 /// Where the two sides differ, in the reply or in a word left behind, both are shown and the comparison ends.
@@ -37,6 +41,9 @@ fn steps(random: &mut Random, met: &mut Counts, words: &[u32], count: u64) -> u6
         demand(call, &before, (reply, &ours), (expected.packed(), &theirs));
         if let Some(read) = reads::name(&before, handler, code, expected) {
             met.note(read);
+        }
+        if let Some(choice) = aborts::choice(&before, handler, code, expected) {
+            choice.names().iter().for_each(|name| met.note(name));
         }
     }
     count
@@ -78,7 +85,7 @@ fn main() {
     for _ in 0..good / 10 {
         opening(&mut random);
     }
-    let lacking = met.lacking(&READS);
+    let lacking = met.lacking(&[&READS[..], &aborts::in_steps()].concat());
     if !lacking.is_empty() {
         println!("seed {seed}: never met, so that nothing is shown of it: {}", lacking.join("; "));
         exit(1);

@@ -1,9 +1,9 @@
-//! Schedules for the judge with large and deep pasts, and with each cell and each handler in turn. A random schedule hardly
-//! gets so far.
+//! Schedules for the judge with large and deep pasts, with each cell and each handler in turn, and with each cell as the one that an abort
+//! names. A random schedule hardly gets so far.
 use super::{directed, Directed};
 use crate::course::Course;
 use crate::judge::MOST;
-use crate::steps::{read, write, BEGIN};
+use crate::steps::{read, write, BEGIN, TRY};
 
 /// 64 commits of so many handlers, each of all 32 cells read and then written. Before them the 16th handler does what the text
 /// says.
@@ -95,6 +95,31 @@ fn each_handler() -> Course {
     course
 }
 
+/// Handler 0 reads all cells but the last, in falling order, of which another then writes those from one cell on; handler 0 reads the last: for
+/// each cell.
+fn each_lowest_read() -> Course {
+    let mut course = Course::new(32, 2);
+    for lowest in 0..31 {
+        course.take(0, BEGIN);
+        course.take_all(0, (0..31).rev().map(read));
+        course.transaction(1, &(lowest..32).map(|cell| write(cell, 5)).collect::<Vec<_>>());
+        course.take(0, read(31));
+    }
+    course
+}
+
+/// Handler 0 reads all cells, of which another then writes those from one cell on, the highest first; handler 0 tries: for each cell.
+fn each_lowest_tried() -> Course {
+    let mut course = Course::new(32, 2);
+    for lowest in 0..32 {
+        course.take(0, BEGIN);
+        course.take_all(0, (0..32).map(read));
+        course.transaction(1, &(lowest..32).rev().map(|cell| write(cell, 5)).collect::<Vec<_>>());
+        course.take(0, TRY);
+    }
+    course
+}
+
 /// The schedules of large and deep pasts.
 pub(super) fn all() -> Vec<Directed> {
     let stale = |then: &str| {
@@ -104,16 +129,18 @@ pub(super) fn all() -> Vec<Directed> {
     };
     vec![
         largest_past(),
-        directed("the largest past of an early reader, read", &stale("15:read31"), "4226 15 63 abort 1"),
+        directed("the largest past of an early reader, read", &stale("15:read31"), "4226 15 63 abort 1 cell 0"),
         directed("the largest past of an early reader, tried", &stale("15:try,begin,read0,try"), "4229 15 1 refused 33"),
-        directed("a chain of 64 commits", &long_chain(), "257 0 33 abort 1"),
-        directed("the 64th commit", &the_last(), "132 0 33 abort 1"),
-        directed("each cell overtaken in turn", &each_cell(), "223 0 32 abort 1"),
-        directed("each handler's earlier commit in turn", &each_handler(), "134 0 33 abort 1"),
-        directed("14 reads deep", &deep(false, false, 0), "61 0 46 abort 1"),
+        directed("a chain of 64 commits", &long_chain(), "257 0 33 abort 1 cell 0"),
+        directed("the 64th commit", &the_last(), "132 0 33 abort 1 cell 0"),
+        directed("each cell overtaken in turn", &each_cell(), "223 0 32 abort 1 cell 31"),
+        directed("each cell the lowest of those overtaken, read", &each_lowest_read(), " 0 63 abort 1 cell 30"),
+        directed("each cell the lowest of those overtaken, tried", &each_lowest_tried(), " 0 1 abort 2 cell 31"),
+        directed("each handler's earlier commit in turn", &each_handler(), "134 0 33 abort 1 cell 0"),
+        directed("14 reads deep", &deep(false, false, 0), "61 0 46 abort 1 cell 0"),
         directed("14 reads deep, the reader late", &deep(false, true, 0), "61 0 46 value 15"),
         directed("14 reads deep, one astray", &deep(false, false, 8), "61 0 46 value 15"),
-        directed("28 deep through handlers", &deep(true, false, 0), "89 0 46 abort 1"),
+        directed("28 deep through handlers", &deep(true, false, 0), "89 0 46 abort 1 cell 0"),
         directed("28 deep through handlers, the reader late", &deep(true, true, 0), "89 0 46 value 15"),
         directed("28 deep through handlers, one astray", &deep(true, false, 8), "89 0 46 value 15"),
     ]

@@ -2,24 +2,24 @@
 //! neighbour of nearly the same steps that is answered the other way.
 
 /// Short schedules: what they show, their steps, and what the last one comes to. All have 4 handlers and 4 cells.
-pub(super) const SHORT: [(&str, &str, &str); 46] = [
-    ("the version's own commit", "0:begin,read0 1:begin,write0=5,write1=7,try 0:read1", "abort 1"),
-    ("a commit that it read", "0:begin,read0 1:begin,write0=5,try 2:begin,read0,write1=6,try 0:read1", "abort 1"),
+pub(super) const SHORT: [(&str, &str, &str); 57] = [
+    ("the version's own commit", "0:begin,read0 1:begin,write0=5,write1=7,try 0:read1", "abort 1 cell 0"),
+    ("a commit that it read", "0:begin,read0 1:begin,write0=5,try 2:begin,read0,write1=6,try 0:read1", "abort 1 cell 0"),
     (
         "a past's past",
         "0:begin,read0 1:begin,write0=5,try 2:begin,read0,write1=6,try 3:begin,read1,write2=7,try 0:read2",
-        "abort 1",
+        "abort 1 cell 0",
     ),
-    ("its handler's earlier commit", "0:begin,read0 1:begin,write0=5,try 1:begin,write1=6,try 0:read1", "abort 1"),
+    ("its handler's earlier commit", "0:begin,read0 1:begin,write0=5,try 1:begin,write1=6,try 0:read1", "abort 1 cell 0"),
     (
         "its handler's earlier commit, commits of nothing between",
         "0:begin,read0 1:begin,write0=5,try,begin,try,begin,try,begin,write1=6,try 0:read1",
-        "abort 1",
+        "abort 1 cell 0",
     ),
     (
         "a commit that only read, of its handler",
         "0:begin,read0 1:begin,write0=5,try 2:begin,read0,try 2:begin,write1=6,try 0:read1",
-        "abort 1",
+        "abort 1 cell 0",
     ),
     (
         "a commit that only read, of another handler",
@@ -43,33 +43,33 @@ pub(super) const SHORT: [(&str, &str, &str); 46] = [
     (
         "a cell written often, and one written once",
         "1:begin,write0=1,try,begin,write0=2,try 0:begin,read0 2:begin,write0=3,write1=4,try 0:read1",
-        "abort 1",
+        "abort 1 cell 0",
     ),
     ("a commit of nothing before", "1:begin,try,begin,write0=5,write1=7,try 0:begin,read0,read1", "value 7"),
     (
         "its handler's second commit of three",
         "0:begin,read0 1:begin,write2=1,try,begin,write0=5,try,begin,write1=6,try 0:read1",
-        "abort 1",
+        "abort 1 cell 0",
     ),
     (
         "the first cell of two that it read",
         "0:begin,read0 1:begin,write0=5,write1=6,try 3:begin,write2=1,try 2:begin,read1,read2,write3=7,try 0:read3",
-        "abort 1",
+        "abort 1 cell 0",
     ),
     (
         "the second cell of two that it read",
         "0:begin,read0 1:begin,write0=5,write2=6,try 3:begin,write1=1,try 2:begin,read1,read2,write3=7,try 0:read3",
-        "abort 1",
+        "abort 1 cell 0",
     ),
     ("both from the opening", "0:begin,read0 1:begin,write0=5,try 0:read1", "unset"),
-    ("the middle one of three reads", "0:begin,read0,read1,read2 1:begin,write1=5,write3=6,try 0:read3", "abort 1"),
-    ("the same value again, read", "1:begin,write0=0,try 0:begin,read0 1:begin,write0=0,write1=0,try 0:read1", "abort 1"),
-    ("the same value again, tried", "1:begin,write0=0,try 0:begin,read0 1:begin,write0=0,try 0:try", "abort 2"),
-    ("0 where nothing was, read", "0:begin,read0 1:begin,write0=0,write1=0,try 0:read1", "abort 1"),
-    ("0 where nothing was, tried", "0:begin,read0 1:begin,write0=0,try 0:try", "abort 2"),
+    ("the middle one of three reads", "0:begin,read0,read1,read2 1:begin,write1=5,write3=6,try 0:read3", "abort 1 cell 1"),
+    ("the same value again, read", "1:begin,write0=0,try 0:begin,read0 1:begin,write0=0,write1=0,try 0:read1", "abort 1 cell 0"),
+    ("the same value again, tried", "1:begin,write0=0,try 0:begin,read0 1:begin,write0=0,try 0:try", "abort 2 cell 0"),
+    ("0 where nothing was, read", "0:begin,read0 1:begin,write0=0,write1=0,try 0:read1", "abort 1 cell 0"),
+    ("0 where nothing was, tried", "0:begin,read0 1:begin,write0=0,try 0:try", "abort 2 cell 0"),
     ("a cell that it wrote and didn't read", "0:begin,write0=9 1:begin,write0=5,write1=7,try 0:read1", "value 7"),
     ("a cell that it wrote and read then", "0:begin,write0=9,read0 1:begin,write0=5,write1=7,try 0:read1", "value 7"),
-    ("a cell that it read and wrote then", "0:begin,read0,write0=9 1:begin,write0=5,write1=7,try 0:read1", "abort 1"),
+    ("a cell that it read and wrote then", "0:begin,read0,write0=9 1:begin,write0=5,write1=7,try 0:read1", "abort 1 cell 0"),
     ("a repeated read", "0:begin,read0,read1 1:begin,write0=5,write1=7,try 0:read1", "unset"),
     ("a read of its own write", "0:begin,read0,write1=9 1:begin,write0=5,write1=7,try 0:read1", "value 9"),
     (
@@ -80,7 +80,7 @@ pub(super) const SHORT: [(&str, &str, &str); 46] = [
     (
         "the writer had read what it wrote over",
         "0:begin,read0 1:begin,write0=5,write1=6,try 2:begin,read1,write1=7,try 0:read1",
-        "abort 1",
+        "abort 1 cell 0",
     ),
     ("a question before", "0:begin,read0 1:begin,write0=5,write1=6,try 2:begin,read1 3:begin,write2=7,try 0:read2", "value 7"),
     (
@@ -113,4 +113,39 @@ pub(super) const SHORT: [(&str, &str, &str); 46] = [
     ("an unset cell, written as 0 since, read again", "0:begin,read0 1:begin,write0=0,try 0:read0", "unset"),
     ("an unset cell, then its own write of 0", "0:begin,read0,write0=0,read0", "value 0"),
     ("its own write of 0 into a cell never written", "0:begin,write0=0,read0", "value 0"),
+    ("two cells overtaken by one commit", "0:begin,read2,read1 1:begin,write1=5,write2=6,write3=7,try 0:read3", "abort 1 cell 1"),
+    (
+        "two cells overtaken, the higher one by the nearer commit",
+        "0:begin,read0,read1 1:begin,write0=5,try 1:begin,write1=6,write2=7,try 0:read2",
+        "abort 1 cell 0",
+    ),
+    (
+        "two cells overtaken, the lower one by the nearer commit",
+        "0:begin,read0,read1 1:begin,write1=5,try 1:begin,write0=6,write2=7,try 0:read2",
+        "abort 1 cell 0",
+    ),
+    (
+        "two cells overtaken, the lower one by a commit that is not in the past",
+        "0:begin,read0,read1 2:begin,write0=9,try 1:begin,write1=5,write2=6,try 0:read2",
+        "abort 1 cell 1",
+    ),
+    (
+        "two cells read, the lower one in the very version",
+        "1:begin,write0=1,try 0:begin,read0,read1 2:begin,read0,write1=2,write2=3,try 0:read2",
+        "abort 1 cell 1",
+    ),
+    ("a read below the cell that is overtaken", "0:begin,read3 1:begin,write0=5,write3=6,try 0:read0", "abort 1 cell 3"),
+    (
+        "a lower cell that it wrote and didn't read",
+        "0:begin,write0=9,read2 1:begin,write0=5,write2=6,write3=7,try 0:read3",
+        "abort 1 cell 2",
+    ),
+    ("two cells overtaken, tried", "0:begin,read3,read1 1:begin,write3=5,try 2:begin,write1=6,try 0:try", "abort 2 cell 1"),
+    ("two cells read, one overtaken, tried", "0:begin,read0,read2 1:begin,write2=5,try 0:try", "abort 2 cell 2"),
+    ("a lower cell that it wrote, tried", "0:begin,write0=9,read2 1:begin,write0=5,write2=6,try 0:try", "abort 2 cell 2"),
+    (
+        "a cell overtaken that it read first of all, tried",
+        "1:begin,write3=1,try 0:begin,read3,read0,write0=9 1:begin,write3=2,try 0:try",
+        "abort 2 cell 3",
+    ),
 ];

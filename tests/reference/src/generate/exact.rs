@@ -77,7 +77,7 @@ mod tests {
             for _ in 0..20 {
                 let run = run(&with_commits(&mut random, commits).file()).unwrap();
                 assert_eq!(run.lines.iter().filter(|line| line.reply == Reply::Commit).count() as u64, commits);
-                assert_eq!(run.lines.iter().filter(|line| line.reply == Reply::Abort(2)).count(), 1);
+                assert_eq!(run.lines.iter().filter(|line| line.reply == Reply::abort(2, 0)).count(), 1);
             }
         }
     }

@@ -1,5 +1,5 @@
-//! Random schedules of several shapes: transactions that meet, long pasts, steps in no order that makes sense, and the smallest and
-//! largest registers. All of them are sound.
+//! Random schedules of several shapes: transactions that meet, long pasts, cells that are overtaken together, steps in no order that makes
+//! sense, and the smallest and largest registers. All of them are sound.
 use super::parts::Parts;
 use super::transactions::{access, any_write, ending, interleaved, odd_order_byte, Manner};
 use crate::random::Random;
@@ -67,6 +67,37 @@ pub(super) fn long_pasts(random: &mut Random) -> Parts {
         }
         order.extend(vec![handler as u8; steps.len()]);
         scripts[handler].extend(steps);
+    }
+    Parts::new(cells, &scripts, order)
+}
+
+/// Some reads or writes of any cells.
+fn accesses(random: &mut Random, cells: u8, (least, most): (u64, u64), write_in: u64) -> Vec<Step> {
+    let step = |random: &mut Random| {
+        let cell = random.below(cells.into()) as u8;
+        access(random, cell, write_in)
+    };
+    (0..random.within(least, most)).map(|_| step(random)).collect()
+}
+
+/// One handler reads about half of the cells, others write several in whole transactions, and the first reads on and tries: an abort then has
+/// more than one cell to name.
+pub(super) fn half_seen(random: &mut Random) -> Parts {
+    let cells = random.within(4, 12) as u8;
+    let handlers = random.within(2, 6);
+    let (mut scripts, mut order) = (vec![Vec::new(); handlers as usize], Vec::new());
+    let mut take = |handler: u64, steps: Vec<Step>| {
+        order.extend(vec![handler as u8; steps.len()]);
+        scripts[handler as usize].extend(steps);
+    };
+    for _ in 0..random.within(1, 16) {
+        let reader = random.below(handlers);
+        take(reader, [vec![BEGIN], accesses(random, cells, (2, u64::from(cells) / 2), 12)].concat());
+        for _ in 0..random.within(1, 3) {
+            let writer = (reader + random.within(1, handlers - 1)) % handlers;
+            take(writer, [vec![BEGIN], accesses(random, cells, (2, 7), 2), vec![TRY]].concat());
+        }
+        take(reader, [accesses(random, cells, (0, 5), 12), vec![ending(random, Some(8))]].concat());
     }
     Parts::new(cells, &scripts, order)
 }

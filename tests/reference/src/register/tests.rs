@@ -1,4 +1,4 @@
-//! The register by cases of docs/RULES.md, and the order of the refusals of a give up.
+//! The register by cases of docs/RULES.md, the cell that an abort names, and the order of the refusals of a give up.
 use super::*;
 
 /// The replies to some steps on a fresh register, and the words then.
@@ -22,7 +22,7 @@ fn listing() {
     let steps = [(0, 0, 0), (0, 32, 0), (1, 0, 0), (1, 64, 5), (1, 65, 7), (1, 1, 0), (0, 33, 0)];
     let (replies, words) = run(2, 2, &steps);
     use Reply::*;
-    assert_eq!(replies, [Ok, Unset, Ok, Ok, Ok, Commit, Abort(1)]);
+    assert_eq!(replies, [Ok, Unset, Ok, Ok, Ok, Commit, Reply::abort(1, 0)]);
     assert_eq!(words[2..8], [5, 1, 1, 7, 1, 1]);
 }
 
@@ -65,7 +65,7 @@ fn given_up() {
     let before = [(0, 0, 0), (0, 65, 3), (0, 1, 0), (1, 0, 0), (1, 64, 5), (1, 1, 0)];
     let steps = [&before[..], &[(0, 0, 0), (0, 32, 0), (0, 65, 7), (0, 2, 0), (0, 2, 0), (0, 1, 0)]].concat();
     let (replies, words) = run(2, 2, &steps);
-    assert_eq!(replies[6..], [Ok, Value(5), Ok, Abort(5), Refused(14), Refused(14)]);
+    assert_eq!(replies[6..], [Ok, Value(5), Ok, Reply::GAVE_UP, Refused(14), Refused(14)]);
     // Every word is as it was before: the cells, and the handler's numbers, though the transaction has read a newer version.
     assert_eq!(words, run(2, 2, &before).1);
 }
@@ -78,9 +78,83 @@ fn given_up_whatever_became_of_the_reads() {
     assert_eq!(replies[5], Commit);
     words[7] = 65_535;
     let cells = words[2..8].to_vec();
-    assert_eq!(step(&mut words.clone(), 0, 1, 0), Abort(2));
-    assert_eq!(step(&mut words, 0, 2, 9), Abort(5));
+    assert_eq!(step(&mut words.clone(), 0, 1, 0), Reply::abort(2, 0));
+    assert_eq!(step(&mut words, 0, 2, 9), Reply::GAVE_UP);
     assert_eq!((&words[2..8], &words[8..17]), (&cells[..], &[0; 9][..]));
+}
+
+/// The words of a register of four cells and one handler, which is open: the read and the written set, the own numbers of the cells, what
+/// cell 3 depends on besides, and the transaction's numbers.
+fn of_four(read: u32, written: u32, own: [u32; 4], third: [u32; 3], numbers: [u32; 4]) -> Vec<u32> {
+    let mut words = vec![4, 1];
+    for (cell, number) in own.into_iter().enumerate() {
+        let mut dependencies = if cell == 3 { [third[0], third[1], third[2], 0] } else { [0; 4] };
+        dependencies[cell] = number;
+        words.extend([&[9], &dependencies[..]].concat());
+    }
+    words.extend([&[1, read, written, 0, 0, 0, 0][..], &numbers, &[8; 4]].concat());
+    words
+}
+
+/// What a step comes to on these words. An abort leaves the cells and the handler's numbers, and clears the rest of the block.
+fn aborted(mut words: Vec<u32>, code: u32) -> Reply {
+    let mut expected = words.clone();
+    expected[22..25].fill(0);
+    expected[29..].fill(0);
+    let reply = step(&mut words, 0, code, 0);
+    assert!(!matches!(reply, Reply::Abort { .. }) || words == expected, "{words:?}");
+    reply
+}
+
+#[test]
+fn abort_1_names_the_lowest_cell_that_was_read_too_early() {
+    // Cell 3 is read, which depends on versions 5 of cells 0 to 2.
+    let read_3 = |read, numbers| aborted(of_four(read, 0, [5; 4], [5; 3], numbers), 35);
+    assert_eq!(read_3(0b0111, [4, 4, 4, 0]), Reply::abort(1, 0));
+    assert_eq!(read_3(0b0111, [5, 4, 4, 0]), Reply::abort(1, 1));
+    assert_eq!(read_3(0b0111, [6, 9, 4, 0]), Reply::abort(1, 2));
+    // A cell outside the read set is not asked, and neither is one that is only written.
+    assert_eq!(read_3(0b0110, [4, 4, 4, 0]), Reply::abort(1, 1));
+    assert_eq!(aborted(of_four(0b0100, 0b0011, [5; 4], [5; 3], [0; 4]), 35), Reply::abort(1, 2));
+    assert_eq!(read_3(0b0111, [5; 4]), Reply::Value(9));
+    // Nor the cell that is read, whatever number the transaction had for it.
+    assert_eq!(read_3(0, [0; 4]), Reply::Value(9));
+}
+
+#[test]
+fn abort_2_names_the_lowest_overtaken_cell() {
+    let tried = |read, numbers| aborted(of_four(read, 0, [5; 4], [0; 3], numbers), 1);
+    assert_eq!(tried(0b1111, [4, 6, 4, 4]), Reply::abort(2, 0));
+    // Higher or lower, and not one that stands as it was read.
+    assert_eq!(tried(0b1111, [5, 6, 4, 5]), Reply::abort(2, 1));
+    assert_eq!(tried(0b1111, [5, 5, 5, 0]), Reply::abort(2, 3));
+    assert_eq!(tried(0b1100, [4, 4, 4, 4]), Reply::abort(2, 2));
+    assert_eq!(tried(0b1111, [5; 4]), Reply::Commit);
+}
+
+#[test]
+fn abort_3_names_the_lowest_spent_cell() {
+    let tried = |written, own| aborted(of_four(0, written, own, [0; 3], [0; 4]), 1);
+    assert_eq!(tried(0b1111, [65_535; 4]), Reply::abort(3, 0));
+    assert_eq!(tried(0b1111, [65_534, 65_535, 3, 65_535]), Reply::abort(3, 1));
+    assert_eq!(tried(0b1010, [65_535, 65_534, 65_535, 65_535]), Reply::abort(3, 3));
+    assert_eq!(tried(0b0101, [0, 65_535, 65_534, 65_535]), Reply::Commit);
+    // An overtaken cell goes first, though it is a higher one.
+    assert_eq!(aborted(of_four(0b1000, 0b0001, [65_535, 0, 0, 1], [0; 3], [0; 4]), 1), Reply::abort(2, 3));
+}
+
+#[test]
+fn a_reply_in_numbers() {
+    use Reply::*;
+    let packed = |reply: Reply| (reply.numbers(), reply.packed());
+    assert_eq!(packed(Value(u32::MAX)), ([1, u32::MAX, 0], (1 << 32) + 0xFFFF_FFFF));
+    assert_eq!(packed(Reply::abort(1, 0)), ([3, 1, 0], (3 << 32) + 1));
+    assert_eq!(packed(Reply::abort(2, 3)), ([3, 2, 3], (3 << 32) + 196_610));
+    assert_eq!(packed(Reply::abort(3, 31)), ([3, 3, 31], (3 << 32) + 31 * 65_536 + 3));
+    assert_eq!(packed(Reply::GAVE_UP), ([3, 5, 0], (3 << 32) + 5));
+    assert_eq!([Ok, Commit, Unset, Refused(15)].map(Reply::packed), [0, 2 << 32, 5 << 32, (4 << 32) + 15]);
+    let shown = [Reply::abort(1, 0), Reply::abort(3, 31), Reply::GAVE_UP].map(|reply| reply.to_string());
+    assert_eq!(shown, ["abort 1 cell 0", "abort 3 cell 31", "abort 5"]);
 }
 
 #[test]

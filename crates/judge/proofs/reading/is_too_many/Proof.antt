@@ -1,7 +1,7 @@
 -- `judge::reading::is_too_many` meets its contract: a try with no stale read, where 64 commits are noted.
 use Prim.Native.Nat.{ℕ}
-use mathlib.Core.Path.{_≡_, ap}
-use mathlib.Core.Bool.{false, not}
+use mathlib.Core.Path.{_≡_, ap, _∙_}
+use mathlib.Core.Bool.{false}
 use mathlib.Core.List.{List}
 use native.Mathlib.Omega.{arith}
 use borrow.Author.Needs.{needs}
@@ -33,18 +33,20 @@ is-too-many-spec =
       omega (arith, ready .handler, ready .ledger .range .handlers),
       omega (arith, ready .ledger .few),
     ))
+    (λ c κs. search needs)
     (λ c. search needs)
     (λ c. search needs)
     (λ c. search needs)
     (λ c. search needs)
     (λ c. search needs)
     -- a try
-    (λ c. let told = c .before .before in
+    (λ c. let told = c .before .before .before in
     let start = told .before .before .before .before .before in
     let ready = start .pre .2 in
-    for-kind (λ s. not (c .is-stale .result) ≡ tooMany (start .args .words .now) (start .args .i) s) try (ap kindIs (told .enum-told .given .1))
-    (try-too-many _ _ (ready .ledger) (ready .handler) (omega (arith, told .before .before .if1 .left))
-    (stale-told ready (c .before .handler-row .ensures) (c .is-stale .ensures))))
+    for-kind (λ s. c .is-nothing .result ≡ tooMany (start .args .words .now) (start .args .i) s) try (ap kindIs (told .enum-told .given .1))
+    (c .is-nothing .ensures
+    ∙ try-too-many _ _ (ready .ledger) (ready .handler) (omega (arith, told .before .before .if1 .left))
+    (stale-told ready (c .before .before .handler-row .ensures) (c .before .overtaken-cell .ensures))))
     -- a begin, a give up, a read, a write
     (λ c. let args = c .before .before .before .before .before .args in
     passing (args .words .now) (args .i) begin (ap kindIs (c .enum-told2 .given .1)) (begin-passes (args .words .now) (args .i)))

@@ -1,13 +1,14 @@
 -- `steps::single::first_read` meets its contract: the test, and then the block is put to rest, or the numbers are copied out and the cell joins.
 use Prim.Native.Nat.{_+_, _≤_}
-use mathlib.Core.Path.{_≡_, sym, _∙_}
+use mathlib.Core.Path.{_≡_, sym, ap, _∙_}
 use native.Mathlib.Omega.{arith}
 use lib.ListN.{length}
 use borrow.Author.Needs.{needs}
-use Rattle.rules.specs.steps.Figure.{isTorn}
+use Rattle.rules.specs.steps.Figure.{tornCell}
 use Rattle.layout.specs.Places.{cellLong, handlerLong, transactionFrom}
 use Rattle.layout.specs.View.{wordSetting, view}
 use Rattle.layout.proofs.Places.{cell-ends}
+use Rattle.words.specs.Sets.{foundIs}
 use Rattle.steps.proofs.Lent.{block-lies, cells-lie, block-words, block-open}
 use Rattle.steps.proofs.Said.{read-among}
 use Rattle.steps.proofs.FirstReading.{torn-told, torn-takes, row-small, read-takes}
@@ -46,32 +47,40 @@ placed c = c .before .before .before .transaction-numbers .ensures
 -- What the words answered is what the rules say.
 answer : (c : tie.After-torn) → let args = start (found c) .args in
     let r = view (args .m) (args .n) (args .body .now) in
-    c .torn .result ≡ isTorn (wordSetting (args .m)) (r .handlers (args .i)) (r .cells (args .x))
+    foundIs (c .torn .result) ≡ tornCell (wordSetting (args .m)) (r .handlers (args .i)) (r .cells (args .x))
 answer c =
     let at = found c in
     c .torn .ensures
     ∙ torn-told (start at .pre) (at .before .cell-at .ensures .starts) (at .block-at .ensures) (placed c)
 
--- Where the test was asked, seen from where the numbers have been copied out.
-abbrev asked : tie.After-copy-out → tie.After-torn
-asked c = c .before .before .before .before .before
+-- Where the test was asked, seen from where it found a cell.
+abbrev torn : tie.After-known-told → tie.After-torn
+torn c = c .before .before .before
+
+-- The same, seen from where it found none.
+abbrev whole : tie.After-enum-told → tie.After-torn
+whole c = c .before .before
+
+-- Where it found none, seen from where the numbers have been copied out.
+abbrev asked : tie.After-copy-out → tie.After-enum-told
+asked c = c .before .before .before .before
 
 -- Abort 1.
 returns : tie.Need-returns
 returns c =
-    let then = c .before .before .before .before in
-    let at = found (then .before) in
+    let told = c .before .before .before .before in
+    let at = found (torn told) in
     torn-takes (start at .pre) (at .before .cell-at .ensures .starts) (at .block-at .ensures)
-    (sym (answer (then .before)) ∙ then .if1 .taken) (c .before .before .rest .ensures)
+    (sym (answer (torn told)) ∙ ap foundIs (told .before .y .given .1)) (c .before .before .rest .ensures)
 
 -- The cell is read.
 returns-2 : tie.Need-returns-2
 returns-2 c =
     let copied = c .before .before .before .before .before .before in
-    let at = found (asked copied) in
-    let whole = sym (answer (asked copied)) ∙ copied .before .before .before .before .if1 .left in
+    let told = asked copied in
+    let at = found (whole told) in
     read-takes (start at .pre) (at .before .cell-at .ensures .starts) (at .block-at .ensures) (copied .copy-out .ensures)
-    whole (c .version-shows .ensures .replied) (c .before .before .before .join .ensures)
+    (sym (answer (whole told)) ∙ ap foundIs (told .enum-told .given .1)) (c .version-shows .ensures .replied) (c .before .before .before .join .ensures)
 
 pub first-read-spec : {M : Type 1} → statement M
 first-read-spec =
@@ -90,29 +99,31 @@ first-read-spec =
     (λ c κs. let at = c .before .before .before in
     (read-among (start at .pre .ready .seated) (at .block-at .ensures .starts), omega (arith, lies at), omega (arith, lies at)))
     -- abort 1
-    (λ c. omega (arith, lies (found (c .before))))
+    (λ c. search needs)
+    (λ c. omega (arith, lies (found (torn c))))
     (λ c. search needs)
     (λ c. search needs)
-    (λ c. omega (arith, lies (found (c .before))))
-    (λ c κs. let at = found (c .before .before) in
+    (λ c. omega (arith, lies (found (torn c))))
+    (λ c κs. let at = found (torn (c .before)) in
     block-words (start at .pre .ready .seated) (at .block-at .ensures))
     (λ c. search needs)
     returns
     -- the value, its number, and the numbers copied out
     (λ c. search needs)
-    (λ c. omega (arith, lies (found (c .before))))
-    (λ c. omega (arith, lies (found (c .before .before))))
-    (λ c. let at = found (c .before .before) in omega (arith, lies at, start at .pre .ready .cell))
-    (λ c. omega (arith, lies (found (c .before .before))))
-    (λ c. let at = found (c .before .before .before) in omega (arith, lies at, start at .pre .ready .cell))
-    (λ c κs. let at = found (c .before .before .before .before) in (omega (arith, lies at), start at .pre .ready .seated .formed .few))
+    (λ c. search needs)
+    (λ c. omega (arith, lies (found (whole c))))
+    (λ c. omega (arith, lies (found (whole (c .before)))))
+    (λ c. let at = found (whole (c .before)) in omega (arith, lies at, start at .pre .ready .cell))
+    (λ c. omega (arith, lies (found (whole (c .before)))))
+    (λ c. let at = found (whole (c .before .before)) in omega (arith, lies at, start at .pre .ready .cell))
+    (λ c κs. let at = found (whole (c .before .before .before)) in (omega (arith, lies at), start at .pre .ready .seated .formed .few))
     -- the cell joins
-    (λ c. omega (arith, lies (found (asked c))))
+    (λ c. omega (arith, lies (found (whole (asked c)))))
     (λ c. search needs)
     (λ c. search needs)
-    (λ c. omega (arith, lies (found (asked c))))
+    (λ c. omega (arith, lies (found (whole (asked c)))))
     (λ c κs. let copied = c .before .before in
-    let at = found (asked copied) in
+    let at = found (whole (asked copied)) in
     let ready = start at .pre .ready in (
       block-open (ready .seated) (at .block-at .ensures) (ready .phase),
       ready .cell,

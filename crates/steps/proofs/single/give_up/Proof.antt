@@ -2,20 +2,17 @@
 use mathlib.Core.Path.{refl}
 use native.Mathlib.Omega.{arith}
 use borrow.Author.Needs.{needs}
-use Rattle.rules.specs.steps.Register.{idle}
-use Rattle.rules.specs.steps.Figure.{aborting, step}
-use Rattle.layout.specs.View.{wordSetting}
-use Rattle.steps.proofs.Lent.{block-lies, block-words, lent-takes}
+use Rattle.rules.specs.steps.Figure.{step}
+use Rattle.steps.proofs.Lent.{block-lies, block-words, rest-takes}
 use Rattle.steps.proofs.single.give_up.Statement.{statement}
 use Rattle.steps.proofs.single.give_up.Tie as tie
 
 returns : tie.Need-returns
-unfolding step aborting
+unfolding step
 returns c =
     let at = c .before .before .before .before in
     let entry = at .before .before in
-    lent-takes (entry .pre .seated) (at .block-at .ensures) (λ h. idle (wordSetting (entry .args .m)) (h .numbers)) refl refl
-    (c .before .before .rest .ensures)
+    rest-takes (entry .pre .seated) (at .block-at .ensures) refl (c .before .before .rest .ensures)
 
 pub give-up-spec : {M : Type 1} → statement M
 give-up-spec =

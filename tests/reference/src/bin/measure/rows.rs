@@ -126,10 +126,10 @@ fn taken(lived: &State) -> Vec<Row> {
         state().begun(&[]).step("write", write(x), Reply::Ok),
         state().begun(&[read(x), write(x)]).step("try, commits 1 cell", TRY, Reply::Commit),
         state().begun(&all).step("try, commits m cells", TRY, Reply::Commit),
-        state().begun(&[read(0)]).commit(&[0, x]).step("read, abort 1", read(x), Reply::Abort(1)),
-        state().begun(&[read(x)]).commit(&[x]).step("try, abort 2", TRY, Reply::Abort(2)),
-        state().begun(&[write(x)]).with(own, 65_535).step("try, abort 3", TRY, Reply::Abort(3)),
-        state().begun(&all).step("give up, abort 5", GIVE_UP, Reply::Abort(5)),
+        state().begun(&[read(0)]).commit(&[0, x]).step("read, abort 1", read(x), Reply::abort(1, 0)),
+        state().begun(&[read(x)]).commit(&[x]).step("try, abort 2", TRY, Reply::abort(2, x as usize)),
+        state().begun(&[write(x)]).with(own, 65_535).step("try, abort 3", TRY, Reply::abort(3, x as usize)),
+        state().begun(&all).step("give up, abort 5", GIVE_UP, Reply::GAVE_UP),
     ]
 }
 

@@ -115,8 +115,9 @@ pub fn burst_checked(burst: &Burst) -> Vec<u32> {
     assert_eq!(their_row(burst, &mut other, &mut expected), 0, "{what}, reference");
     our_calls(burst, &mut many, |reply| replies.push(reply));
     assert_eq!(reports, expected, "{what}: the reports");
-    let reported = reports.chunks_exact(REPORT_WORDS).map(|report| u64::from(report[2]) << 32 | u64::from(report[3]));
-    assert_eq!(reported.collect::<Vec<_>>(), replies, "{what}: the replies one by one");
+    let packed = |report: &[u32]| u64::from(report[2]) << 32 | u64::from(report[4]) << 16 | u64::from(report[3]);
+    let reported: Vec<u64> = reports.chunks_exact(REPORT_WORDS).map(packed).collect();
+    assert_eq!(reported, replies, "{what}: the replies one by one");
     assert!(replies.iter().all(|reply| !matches!(reply >> 32, 3 | 4)), "{what}: a step is refused or aborts");
     assert!(one == other && one == many, "{what}: the words");
     one
