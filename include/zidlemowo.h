@@ -8,7 +8,8 @@
 // Link with target/staticlib/libgateway.a, which `rt staticlib gateway` proves and builds for x86-64 Linux. It needs nothing of the
 // C library but memcpy and memset. examples/gateway.c, examples/run.c and examples/sheet.c are whole programs.
 //
-// docs/RULES.md has the rules, docs/REPLIES.md every number that is given; zidlemowo_text says in words what it means, for a log.
+// docs/RULES.md has the rules, docs/CODES.md every step code, docs/REPLIES.md every number that is given; zidlemowo_text says in words what
+// it means, for a log.
 //
 // A transaction that is open stays open until a step ends it, and a later try of that handler commits what was written in it. So
 // where a handler's work comes to nothing, give up: that ends the transaction for certain, with no cell changed, and the handler may
@@ -70,7 +71,7 @@ enum {
 // The words of a register of m cells and n handlers, both in range, as a constant, to declare an array with: 2 + m(m+1) + n(3+3m).
 #define ZIDLEMOWO_WORDS(m, n) (2u + (m) * ((m) + 1u) + (n) * (3u + 3u * (m)))
 
-// Step codes. Every other number is unknown and is refused with 15.
+// Step codes, which are those of docs/CODES.md. Every other number is unknown and is refused with 15.
 enum {
     ZIDLEMOWO_BEGIN = 0,     // begin: opens the handler's transaction
     ZIDLEMOWO_TRY = 1,       // try to commit: ends the transaction with a commit or an abort

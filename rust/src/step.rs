@@ -1,4 +1,4 @@
-//! The five steps and their codes.
+//! The five steps and their codes, which are those of docs/CODES.md.
 
 /// A step of a handler.
 ///

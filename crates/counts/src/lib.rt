@@ -1,5 +1,6 @@
 // One handler's counts of a duty sheet: which count an answer to a step raises, and counts brought up to date with it, by value and where
 // they stand. Internal: called by `sheets` alone.
+ghost use Rattle.rules.specs.steps.Codes.{plainSheet};
 ghost use Rattle.rules.specs.steps.Replies as Rules;
 ghost use Rattle.replies.specs.Meaning.{outcomeIs, replyIs};
 ghost use Rattle.checks.specs.Meaning.{kindIs};
@@ -38,12 +39,12 @@ fn done_column(kind: Kind) -> usize
     }
 }
 
-// The column of the count that an outcome raises: a reason has its own.
-fn outcome_column(kind: Kind, outcome: Outcome) -> usize
-    ensures { λ r. ⌜ RaisedAt (raisedBy (kindIs kind) (outcomeIs outcome)) r ⌝ }
+// The column of the count that an outcome raises: a reason has its own. What the code stands for is looked up only where it decides.
+fn outcome_column(code: u32, outcome: Outcome) -> usize
+    ensures { λ r. ⌜ RaisedAt (raisedBy (plainSheet code) (outcomeIs outcome)) r ⌝ }
 {
     match outcome {
-        Outcome::Done => done_column(kind),
+        Outcome::Done => done_column(kind_of(code)),
         Outcome::Shows(_) => NO_COLUMN,
         Outcome::Committed => 1,
         Outcome::Aborted(reason) => match reason {
@@ -62,7 +63,7 @@ fn raised_column(code: u32, answer: Answer) -> usize
     match answer {
         Answer::Reported(report) => {
             let outcome = report.outcome;
-            outcome_column(kind_of(code), outcome)
+            outcome_column(code, outcome)
         }
         Answer::Refused(_) => NO_COLUMN,
     }

@@ -2,6 +2,7 @@
 use Prim.Native.Nat.{ℕ, _+_, _≤_, _<_}
 use mathlib.Core.Path.{_≡_}
 use mathlib.Core.Bool.{true, false}
+use mathlib.Core.Logic.{_↔_}
 use mathlib.Core.List.{List}
 use native.Mathlib.Omega.{arith}
 use lib.Dec.{eqb}
@@ -10,12 +11,11 @@ use borrow.Author.Tests.{eqb-true, eq-eqb}
 use Rattle.rules.specs.steps.Checks.{inRange}
 use Rattle.rules.proofs.steps.Tables.{same-test}
 use Rattle.limits.proofs.Ranges.{answers-no}
-use Rattle.layout.specs.Places.{cellsOf, handlersOf, bodyOf, bodyLong, cellPart, handlerPart, numberIn, phaseIn}
-use Rattle.layout.specs.WellFormed.{GoodBlock, WellFormed, isGoodBody, isWellFormed}
+use Rattle.layout.specs.Places.{cellsOf, handlersOf, bodyOf, bodyLong, cellPart, handlerPart, numberIn}
+use Rattle.layout.specs.WellFormed.{WellFormed, isGoodBody, isWellFormed}
 use Rattle.layout.proofs.Tested.{body-iff, tested}
-use Rattle.formed.specs.Faults.{Faults}
+use Rattle.formed.specs.Faults.{Faults, Fit, NumbersFit, GoodFront}
 use Rattle.formed.proofs.Gathers.{EachBelow, faults-both}
-use Rattle.formed.proofs.Parts.{Fit}
 
 -- Words that are not well formed are answered with no.
 pub not-formed : (words : List ℕ) → (WellFormed words → ⊥) → false ≡ isWellFormed words
@@ -28,30 +28,41 @@ unfolding isWellFormed
 in-range-formed words ranged = rw ranged
 
 module _ (last m n : ℕ) (body : List ℕ) where
-  -- The numbers of all cells fit.
-  abbrev CellsFit : Type 0
-  CellsFit = EachBelow m (λ c. Fit m (numberIn (cellPart m body c)))
-
-  -- All blocks are good.
-  abbrev BlocksGood : Type 0
-  BlocksGood = EachBelow n (λ i. GoodBlock m (handlerPart m body i) × (phaseIn (handlerPart m body i) ≤ last))
-
   -- A body that is too short is answered with no.
   pub too-short : length body < bodyLong m n → false ≡ isGoodBody last m n body
   too-short short = answers-no (isGoodBody last m n body) (λ e. omega (arith, body-iff last m n body .0 e .0 .long))
 
-  -- Where the words are enough, no fault of cells and blocks is what a good body asks besides.
-  pub no-fault : bodyLong m n ≤ length body → {most most′ cells blocks : ℕ} → Faults most CellsFit cells → Faults most′ BlocksGood blocks
-      → eqb (cells + blocks) 0 ≡ isGoodBody last m n body
-  no-fault long {most} {most′} {cells} {blocks} first second = same-test (eqb (cells + blocks) 0) (isGoodBody last m n body) to from
+  -- Where the words are enough, no fault of the fronts and of the bits that tell of all numbers is what a good body asks besides.
+  pub no-fault : bodyLong m n ≤ length body → {bits over : ℕ} → (bits ≤ 65535) ↔ EachBelow n (λ i. NumbersFit m (handlerPart m body i))
+      → (over ≤ 65535) ↔ ((bits ≤ 65535) × EachBelow m (λ c. Fit m (numberIn (cellPart m body c))))
+      → {most faults fault : ℕ} → Faults most (EachBelow n (λ i. GoodFront last m (handlerPart m body i))) faults → Faults 1 (over ≤ 65535) fault
+      → eqb (faults + fault) 0 ≡ isGoodBody last m n body
+  no-fault long blocks cells {most} {faults} {fault} fronts numbers = same-test (eqb (faults + fault) 0) (isGoodBody last m n body) to from
     where
-      both : Faults (most + most′) (CellsFit × BlocksGood) (cells + blocks)
-      both = faults-both first second
-
-      to : eqb (cells + blocks) 0 ≡ true → isGoodBody last m n body ≡ true
+      to : eqb (faults + fault) 0 ≡ true → isGoodBody last m n body ≡ true
       to e =
-          let good = both .none .0 (eqb-true (cells + blocks) 0 e) in
-          body-iff last m n body .1 (record { long = long; numbers = good .0; blocks = λ i h. good .1 i h .0 }, λ i h. good .1 i h .1)
+          let (front, fits) = faults-both fronts numbers .none .0 (eqb-true (faults + fault) 0 e) in
+          let (before, cell) = cells .0 fits in
+          let block = blocks .0 before in
+          body-iff last m n body .1 (
+            record {
+              long = long;
+              numbers = cell;
+              blocks = λ i h. record {
+                readSet = front i h .1 .0;
+                writtenSet = front i h .1 .1;
+                numbers = block i h .0;
+                transaction = block i h .1;
+              };
+            },
+            λ i h. front i h .0,
+          )
 
-      from : isGoodBody last m n body ≡ true → eqb (cells + blocks) 0 ≡ true
-      from e = let (good, phases) = body-iff last m n body .0 e in eq-eqb (cells + blocks) 0 (both .none .1 (good .numbers, λ i h. (good .blocks i h, phases i h)))
+      from : isGoodBody last m n body ≡ true → eqb (faults + fault) 0 ≡ true
+      from e =
+          let (good, phases) = body-iff last m n body .0 e in
+          let before = blocks .1 (λ i h. (good .blocks i h .numbers, good .blocks i h .transaction)) in
+          eq-eqb (faults + fault) 0 (faults-both fronts numbers .none .1 (
+            λ i h. (phases i h, (good .blocks i h .readSet, good .blocks i h .writtenSet)),
+            cells .1 (before, good .numbers),
+          ))

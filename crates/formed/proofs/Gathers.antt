@@ -1,10 +1,10 @@
--- Laws of faults: how they are joined, turn by turn and part by part, and what they are of one number, one phase and one set.
+-- Laws of faults and of bits: how they are joined, turn by turn and part by part, and what they are of numbers and of a set.
 use Prim.Native.Nat.{ℕ, _+_, _*_, _/_, _^_, _≤_, _<_}
 use mathlib.Core.Path.{_≡_, refl, sym, subst}
-use mathlib.Core.Logic.{_↔_, Iff·rfl, Iff·symm, Iff·trans}
+use mathlib.Core.Logic.{_↔_, Iff·rfl, Iff·symm, Iff·trans, Iff·and}
 use native.Mathlib.Omega.{arith}
-use native.Mathlib.Nat.{div-lt-iff-lt-mul, div-le-self}
-use lib.Bits.{bitOr, or-add-and, and-le-l, and-le-r, or-shr}
+use native.Mathlib.Nat.{div-lt-iff-lt-mul}
+use lib.Bits.{bitOr, or-add-and, or-lt, and-le-l, and-le-r, or-shr}
 use lib.Pow.{pow-pos, shr-le}
 use borrow.Author.Count.{below-more}
 use Rattle.layout.specs.WellFormed.{NoBitFrom}
@@ -59,6 +59,10 @@ faults-same bound same found = record { small = omega (arith, found .small); non
 abbrev pub EachBelow : ℕ → (ℕ → Type 0) → Type 0
 EachBelow i Good = (y : ℕ) → y < i → Good y
 
+-- All below the next place are good just when all below this one are, and this one.
+each-more : {Good : ℕ → Type 0} (i : ℕ) → (EachBelow i Good × Good i) ↔ EachBelow (i + 1) Good
+each-more {Good} i = (λ h. below-more Good i (h .0) (h .1), λ h. (λ y l. h y (omega arith), h i (omega arith)))
+
 module _ (each : ℕ) (Good : ℕ → Type 0) where
   -- What was gathered over the places below i.
   abbrev pub Gathered : ℕ → ℕ → Type 0
@@ -70,29 +74,56 @@ module _ (each : ℕ) (Good : ℕ → Type 0) where
 
   -- One more place is looked at, and its faults are joined to what was gathered.
   pub gathered-more : {i faults : ℕ} → Faults (each * i + each) (EachBelow i Good × Good i) faults → Gathered (i + 1) faults
-  gathered-more {i} = faults-same (omega arith) (to, from)
-    where
-      to : EachBelow i Good × Good i → EachBelow (i + 1) Good
-      to h = below-more Good i (h .0) (h .1)
+  gathered-more {i} = faults-same (omega arith) (each-more i)
 
-      from : EachBelow (i + 1) Good → EachBelow i Good × Good i
-      from h = (λ y l. h y (omega arith), h i (omega arith))
+module _ (bits₀ : ℕ) (Good : ℕ → Type 0) where
+  -- Bits are a number exactly where those from before are and the places below i are good.
+  abbrev pub Told : ℕ → ℕ → Type 0
+  Told i bits = (bits ≤ 65535) ↔ ((bits₀ ≤ 65535) × EachBelow i Good)
+
+  -- Where nothing was looked at that could be bad, the bits are those from before.
+  pub told-none : {i : ℕ} → EachBelow i Good → Told i bits₀
+  told-none good = (λ h. (h, good), λ h. h .0)
+
+  -- One more place is looked at, and what it says is laid over the bits.
+  pub told-more : {i bits over : ℕ} {Says : Type 0} → Told i bits → (over ≤ 65535) ↔ ((bits ≤ 65535) × Says) → Says ↔ Good i → Told (i + 1) over
+  told-more {i} told laid says = Iff·trans (Iff·trans laid (Iff·and told says)) (to, from)
+    where
+      to : ((bits₀ ≤ 65535) × EachBelow i Good) × Good i → (bits₀ ≤ 65535) × EachBelow (i + 1) Good
+      to ((before, good), here) = (before, each-more i .0 (good, here))
+
+      from : (bits₀ ≤ 65535) × EachBelow (i + 1) Good → ((bits₀ ≤ 65535) × EachBelow i Good) × Good i
+      from (before, good) = let (below, here) = each-more i .1 good in ((before, below), here)
 
   -- All places are looked at.
-  pub gathered-all : {i n faults most : ℕ} → Gathered i faults → i ≤ n → n ≤ i → each * n ≤ most → Faults most (EachBelow n Good) faults
-  gathered-all {i} {n} {faults} gathered reached within bound = faults-same bound Iff·rfl whole
-    where
-      same : i ≡ n
-      same = omega arith
+  pub told-all : {i n bits : ℕ} → Told i bits → i ≤ n → n ≤ i → Told n bits
+  told-all {i} {n} {bits} told reached within = subst (λ k. Told k bits) (let same : i ≡ n = omega arith in same) told
 
-      whole : Gathered n faults
-      whole = subst (λ k. Gathered k faults) same gathered
+-- Bits that tell of something besides a number from before tell of that alone.
+pub told-besides : {bits₀ bits : ℕ} {Good : Type 0} → bits₀ ≤ 65535 → (bits ≤ 65535) ↔ ((bits₀ ≤ 65535) × Good) → (bits ≤ 65535) ↔ Good
+told-besides fits told = (λ h. told .0 h .1, λ h. told .1 (fits, h))
 
--- ── Of one word ───────────────────────────────────────────────────────
+-- ── Of words ──────────────────────────────────────────────────────────
 
--- The faults of a number: how far it lies above 65,535.
-pub number-faults : (word : ℕ) → word < 2 ^ 32 → Faults 65535 (word ≤ 65535) (word / 65536)
-number-faults word fits = omega arith
+-- Two words laid over each other are a number just when both are.
+over-number : (a b : ℕ) → (bitOr a b ≤ 65535) ↔ ((a ≤ 65535) × (b ≤ 65535))
+over-number a b = (to, from)
+  where
+    to : bitOr a b ≤ 65535 → (a ≤ 65535) × (b ≤ 65535)
+    to h = let joined = or-add-and a b in (omega (arith, joined, and-le-r a b), omega (arith, joined, and-le-l a b))
+
+    from : (a ≤ 65535) × (b ≤ 65535) → bitOr a b ≤ 65535
+    from (first, second) = omega (arith, or-lt 16 a b (omega arith) (omega arith))
+
+-- So are two words laid over bits.
+pub over-numbers : (bits a b : ℕ) → (bitOr (bitOr bits a) b ≤ 65535) ↔ ((bits ≤ 65535) × ((a ≤ 65535) × (b ≤ 65535)))
+over-numbers bits a b = Iff·trans (Iff·trans (over-number (bitOr bits a) b) (Iff·and (over-number bits a) Iff·rfl)) (to, from)
+  where
+    to : ((bits ≤ 65535) × (a ≤ 65535)) × (b ≤ 65535) → (bits ≤ 65535) × ((a ≤ 65535) × (b ≤ 65535))
+    to ((before, first), second) = (before, (first, second))
+
+    from : (bits ≤ 65535) × ((a ≤ 65535) × (b ≤ 65535)) → ((bits ≤ 65535) × (a ≤ 65535)) × (b ≤ 65535)
+    from (before, (first, second)) = ((before, first), second)
 
 -- The faults of a set of m cells: what its bits from m on say.
 pub set-faults : (m word : ℕ) → word < 2 ^ 32 → Faults 4294967295 (NoBitFrom m word) (word / 2 ^ m)

@@ -1,4 +1,5 @@
--- Laws of faults, and of what is answered.
+-- Laws of faults, of walks over rows, and of what is answered.
 pub mod Gathers
+pub mod Walks
 pub mod Parts
 pub mod Answers

@@ -1,16 +1,12 @@
 -- The bytes of everything that is printed of a run: its header, its lines, its cells, and a refused file's one line.
-use Prim.Native.Nat.{ℕ, zero, suc}
+use Prim.Native.Nat.{ℕ}
 use mathlib.Core.List.{List, [], _∷_, _++_}
 use mathlib.Core.Option.{Option, none, some}
 use Rattle.rules.specs.steps.Replies.{Reason, Content, unset, value, Outcome, ok, shows, committed, aborted, Refusal, Reply, reported}
 use Rattle.rules.specs.steps.Replies.{reasonNumber, reasonCell, refusalNumber}
 use Rattle.replies.specs.Ends.{CellLine}
-use Rattle.text.specs.Bytes.{ascii, decimal}
+use Rattle.text.specs.Bytes.{ascii, newline, decimal}
 use Rattle.lines.specs.Lines.{Line}
-
--- The end of a line.
-abbrev pub newline : List ℕ
-newline = 10 ∷ []
 
 -- What is shown of a cell: `unset` or `value V`.
 abbrev pub contentText : Content ℕ → List ℕ
@@ -77,11 +73,6 @@ cellText c cell = ascii "cell " ++ decimal c ++ ascii " " ++ contentText (cell .
 abbrev pub endText : ℕ → Option CellLine → List ℕ
 endText c none = []
 endText c (some cell) = cellText c cell
-
--- The texts of the first so many cells, one after another.
-unfoldable pub cellsText : ℕ → (ℕ → List ℕ) → List ℕ
-cellsText zero text = []
-cellsText (suc c) text = cellsText c text ++ text c
 
 -- The one line of a refused file.
 unfoldable pub refusedText : Refusal → List ℕ

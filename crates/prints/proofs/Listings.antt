@@ -9,8 +9,8 @@ use Rattle.rules.specs.steps.Figure.{joined, taken, wrote, versionShows, shown,
 use Rattle.rules.specs.steps.Figure.{aborting, committing, unlessAborted, readChecks, tryChecks, firstRead, reading, trying, step}
 use Rattle.rules.specs.steps.Turn.{stepRefusal, turned, turn}
 use Rattle.layout.specs.WellFormed.{everyBelow}
-use Rattle.text.specs.Bytes.{spelled}
-use Rattle.lines.specs.Texts.{lineText, linesText, headerText, cellText, cellsText, refusedText}
+use Rattle.text.specs.Bytes.{written, spelled, inTurn}
+use Rattle.lines.specs.Texts.{lineText, linesText, headerText, cellText, refusedText}
 use Rattle.schedule.specs.Bytes.{shortAt, longAt}
 use Rattle.schedule.specs.Sound.{dueAt, isPlaced, isSoundTable, isSoundFile}
 use Rattle.schedule.specs.Scripts.{stepsBehind}
@@ -18,12 +18,12 @@ use Rattle.schedule.specs.Admitting.{fileChecks, fileRefusal, admitted, admissi
 use Rattle.runs.specs.ByRules.{nextAsked, ordered, runFrom, started, playedBy, runOf}
 use Rattle.agreement.specs.Agreement.{cutAfter, commitsAmong}
 use Rattle.prints.specs.Printed.{playedText, printed, judgedText, judgedPrinted}
-use Rattle.prints.specs.Listings.{written, published, givenUp, calm, empty, unknown, unordered, listings}
+use Rattle.prints.specs.Listings.{published, givenUp, calm, empty, unknown, unordered, listings}
 
 -- The runner prints each listing,
 pub listings-printed : map (λ l. printed (l .file)) listings ≡ map (λ l. l .text) listings
 unfolding listings published givenUp calm empty unknown unordered written
-    playedText lineText linesText headerText cellText cellsText refusedText spelled
+    playedText lineText linesText headerText cellText refusedText inTurn spelled
     runOf playedBy started runFrom ordered nextAsked admissionOf admitted fileRefusal fileChecks
     stepsBehind isSoundFile isSoundTable isPlaced dueAt shortAt longAt everyBelow inRange
     put orElse lowest someBelow plainSheet withHandler idle blank fresh firstHit stepChecks
@@ -34,7 +34,7 @@ listings-printed = refl
 -- and so does the judge.
 pub listings-judged : map (λ l. judgedPrinted (l .file)) listings ≡ map (λ l. l .text) listings
 unfolding listings published givenUp calm empty unknown unordered written
-    judgedText cutAfter commitsAmong lineText linesText headerText cellText cellsText refusedText spelled
+    judgedText cutAfter commitsAmong lineText linesText headerText cellText refusedText inTurn spelled
     runOf playedBy started runFrom ordered nextAsked admissionOf admitted fileRefusal fileChecks
     stepsBehind isSoundFile isSoundTable isPlaced dueAt shortAt longAt everyBelow inRange
     put orElse lowest someBelow plainSheet withHandler idle blank fresh firstHit stepChecks

@@ -5,8 +5,9 @@ use mathlib.Core.Path.{_≡_}
 use mathlib.Core.Bool.{Bool, true, not}
 use mathlib.Core.List.{List, [], _++_}
 use Rattle.rules.specs.steps.Tables.{if_then_else_}
+use Rattle.text.specs.Bytes.{inTurn}
 use Rattle.text.specs.Lies.{Puts}
-use Rattle.lines.specs.Texts.{headerText, linesText, endText, cellsText, refusedText}
+use Rattle.lines.specs.Texts.{headerText, linesText, endText, refusedText}
 use Rattle.schedule.specs.Taking.{atStart, placesIn}
 use Rattle.schedule.specs.Admitting.{Admission, sound, admissionOf}
 use Rattle.runs.specs.Players.{Player}
@@ -15,7 +16,7 @@ use Rattle.runs.specs.Stopping.{untilStop, everStops}
 
 -- The cells as a player shows them from its words.
 abbrev pub shownCells : Player → ℕ → List ℕ → List ℕ
-shownCells player m words = cellsText m (λ c. endText c (player .showing (record { words = words; cell = c }) .reply))
+shownCells player m words = inTurn m (λ c. endText c (player .showing (record { words = words; cell = c }) .reply))
 
 -- All order places of a file, one after another, on opened words.
 abbrev pub allPlaces : Player → List ℕ → List ℕ → Stretch

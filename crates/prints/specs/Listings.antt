@@ -2,20 +2,13 @@
 -- beside one never written, a file refused with 30, one refused with 15, and order places refused with 11 and with 32.
 -- proofs/Listings.antt computes that the runner and the judge print just this.
 use Prim.Native.Nat.{ℕ}
-use Prim.Native.String.{String}
-use mathlib.Core.List.{List, [], _∷_, _++_}
-use Rattle.text.specs.Bytes.{ascii}
-use Rattle.lines.specs.Texts.{newline}
+use mathlib.Core.List.{List, [], _∷_}
+use Rattle.text.specs.Bytes.{written}
 
 -- A file, and what is printed of it.
 pub record Listing : Type 0 where
   pub file : List ℕ
   pub text : List ℕ
-
--- Lines of letters, each with its end.
-unfoldable pub written : List String → List ℕ
-written [] = []
-written (line ∷ lines) = ascii line ++ newline ++ written lines
 
 -- The published listing, docs/RULES.md, K7: handler 0 is aborted with 1, by cell 0.
 unfoldable pub published : Listing

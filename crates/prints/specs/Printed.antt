@@ -7,14 +7,15 @@ use Rattle.rules.specs.Promise.{Due, Promise}
 use Rattle.rules.specs.steps.Tables.{if_then_else_}
 use Rattle.rules.specs.steps.Register.{Register}
 use Rattle.replies.specs.Ends.{cellLine}
+use Rattle.text.specs.Bytes.{inTurn}
 use Rattle.text.specs.Lies.{putting}
-use Rattle.lines.specs.Texts.{headerText, linesText, cellText, cellsText, refusedText}
+use Rattle.lines.specs.Texts.{headerText, linesText, cellText, refusedText}
 use Rattle.runs.specs.ByRules.{Played, ran, runOf}
 use Rattle.agreement.specs.Agreement.{cutAfter, commitsAmong}
 
 -- Each cell with what it holds and its own number.
 abbrev pub registerText : ℕ → Register ℕ → List ℕ
-registerText m register = cellsText m (λ c. cellText c (cellLine c (register .cells c)))
+registerText m register = inTurn m (λ c. cellText c (cellLine c (register .cells c)))
 
 -- The text of what a file comes to: a header, a line for each order byte, then each cell; or a refused file's one line.
 unfoldable pub playedText : Played → List ℕ

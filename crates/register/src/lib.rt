@@ -56,7 +56,9 @@ pub fn step(words: &mut [u32], handler: u32, code: u32, value: u32) -> Answer
     if !formed::well_formed(words) {
         return Answer::Refused(Refusal::NotWellFormed);
     }
-    turns::step_formed(words, handler, code, value)
+    let entry = checks::entry_of(code);
+    let turned = turns::step_formed(words, handler, entry, value);
+    turns::answer_of(handler, code, turned)
 }
 
 // What a cell holds, and its own number.

@@ -1,14 +1,17 @@
-// Many steps in one call: a row of steps, a register and words for the reports, all lent by the caller. The register is tested once.
+// Many steps in one call: a row of steps, a register and words for the reports, all lent by the caller. The register is tested once, and the
+// table of step codes is asked for once.
 // PUBLIC: `row` has no `requires`; its promise fixes the reply, every word of the register, of the reports and around them.
 ghost use mathlib.Core.Path.{_≡_};
 ghost use mathlib.Core.Bool.{not};
 ghost use Prim.Native.Nat.{_+_, _*_, _≤_};
 ghost use lib.Dec.{ltb};
 ghost use lib.ListN.{length, take};
+ghost use Rattle.rules.specs.steps.Codes.{plainSheet};
 ghost use Rattle.limits.specs.Limits.{stepWidth, reportWidth};
 ghost use Rattle.layout.specs.Rows.{splice};
 ghost use Rattle.layout.specs.WellFormed.{WellFormed};
 ghost use Rattle.replies.specs.Meaning.{replyIs};
+ghost use Rattle.checks.specs.Promises.{TablePromise};
 ghost use Rattle.rows.specs.Rows.{stepsIn, reportOf, wordsAfter, reportsOf, RowPromise};
 ghost use Rattle.rows.specs.Meaning.{rowedIs};
 use replies::Answer;
@@ -44,8 +47,16 @@ fn put_report(reports: &mut [u32], at: usize, handler: u32, code: u32, answer: A
     reports[at + places::REPORT_CELL] = numbers.cell;
 }
 
-// Takes so many steps of a row, and puts the report of each behind that of the one before it.
-fn take_steps(words: &mut [u32], steps: &[u32], reports: &mut [u32], place: usize, count: usize)
+// Takes so many steps of a row by the table of the plain sheet, and puts the report of each behind that of the one before it.
+fn take_steps(
+    words: &mut [u32],
+    table: &[u8],
+    steps: &[u32],
+    reports: &mut [u32],
+    place: usize,
+    count: usize,
+)
+    requires { ⌜ TablePromise plainSheet (now table) ⌝ }
     requires { ⌜ WellFormed (now words) × (stepWidth * count ≤ length (now steps)) × (place + reportWidth * count ≤ length (now reports)) ⌝ }
     ensures { λ _. ⌜ (now (words .exit) ≡ wordsAfter (now (words .entry)) (take count (stepsIn (now (steps .entry)))))
         × (now (reports .exit)
@@ -56,13 +67,14 @@ fn take_steps(words: &mut [u32], steps: &[u32], reports: &mut [u32], place: usiz
         let handler = steps[at + places::STEP_HANDLER];
         let code = steps[at + places::STEP_CODE];
         let value = steps[at + places::STEP_VALUE];
-        let answer = turns::step_formed(words, handler, code, value);
+        let entry = checks::entry_by(table, code);
+        let turned = turns::step_formed(words, handler, entry, value);
         put_report(
             reports,
             place + limits::REPORT_WIDTH * k,
             handler,
             code,
-            answer,
+            turns::answer_of(handler, code, turned),
         );
     }
 }
@@ -79,6 +91,7 @@ pub fn row(words: &mut [u32], steps: &[u32], reports: &mut [u32], place: usize) 
     if !has_room(reports.len(), place, count) {
         return Rowed::Refused(Refusal::NoRoom);
     }
-    take_steps(words, steps, reports, place, count);
+    let table = checks::plain_table();
+    take_steps(words, &table, steps, reports, place, count);
     Rowed::Done
 }

@@ -38,6 +38,15 @@ pub takes-value : (kind : Kind) → isUnknown kind ≡ false → stepBytes kind 
 takes-value (known step) e = refl
 takes-value unknown e = both-ways refl e
 
+-- No step takes more than five bytes.
+pub takes-few : (kind : Kind) → stepBytes kind ≤ 5
+takes-few unknown = omega arith
+takes-few (known begin) = omega arith
+takes-few (known try) = omega arith
+takes-few (known giveUp) = omega arith
+takes-few (known (read x)) = omega arith
+takes-few (known (write x)) = omega arith
+
 -- ── Behind bytes of value ─────────────────────────────────────────────
 
 -- Bytes of value are skipped,

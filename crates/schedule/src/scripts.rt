@@ -2,6 +2,8 @@
 ghost use mathlib.Core.Path.{_≡_};
 ghost use lib.ListN.{drop};
 ghost use Rattle.rules.specs.steps.Codes.{plainSheet};
+ghost use Rattle.checks.specs.Meaning.{kindIs};
+ghost use Rattle.checks.specs.Promises.{TablePromise};
 ghost use Rattle.schedule.specs.Scripts.{isWhole};
 ghost use Rattle.schedule.specs.Fronts.{stepBytes, FrontOf};
 use crate::table::long_at;
@@ -14,11 +16,11 @@ pub enum Front {
     Stands { code: u8, value: u32, long: usize },
 }
 
-// The bytes that a step takes, its value with it; 0 where the code is unknown.
-fn step_bytes(code: u8) -> usize
-    ensures { λ r. ⌜ r ≡ stepBytes (plainSheet code) ⌝ }
+// The bytes that a step takes, its value with it; 0 where its code is unknown.
+fn step_bytes(kind: Kind) -> usize
+    ensures { λ r. ⌜ r ≡ stepBytes (kindIs kind) ⌝ }
 {
-    match checks::kind_of(code as u32) {
+    match kind {
         Kind::Begin => 1,
         Kind::Try => 1,
         Kind::GiveUp => 1,
@@ -28,20 +30,22 @@ fn step_bytes(code: u8) -> usize
     }
 }
 
-// Whether every code of a script is known and no write is cut short.
-pub fn whole(script: &[u8]) -> bool
+// Whether every code of a script is known, by the table of the plain sheet, and no write is cut short.
+pub fn whole(script: &[u8], table: &[u8]) -> bool
+    requires { ⌜ TablePromise plainSheet (now table) ⌝ }
     ensures { λ r. ⌜ r ≡ isWhole (now (script .entry)) ⌝ }
 {
     let mut at = 0;
     while at < script.len() {
-        let long = step_bytes(script[at]);
+        let entry = checks::entry_by(table, script[at] as u32);
+        let long = step_bytes(checks::kind_in(entry));
         if long == 0 {
             return false;
         }
-        if script.len() - at < long {
+        at = at + long;
+        if script.len() < at {
             return false;
         }
-        at = at + long;
     }
     true
 }
@@ -54,7 +58,7 @@ pub fn in_front(script: &[u8], at: usize) -> Front
         return Front::Refuses(Refusal::UsedUp);
     }
     let code = script[at];
-    let long = step_bytes(code);
+    let long = step_bytes(checks::kind_of(code as u32));
     if long == 0 {
         return Front::Refuses(Refusal::UnknownStep);
     }

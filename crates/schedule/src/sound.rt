@@ -29,10 +29,11 @@ pub fn whole_scripts(file: &[u8]) -> bool
     requires { ⌜ SoundFile (now file) ⌝ }
     ensures { λ r. ⌜ r ≡ allWhole (now (file .entry)) ⌝ }
 {
+    let table = checks::plain_table();
     let n = file[0] as usize;
     for handler in 0..n {
         let script = body(file, 2, handler);
-        if !whole(script) {
+        if !whole(script, &table) {
             return false;
         }
     }

@@ -5,9 +5,7 @@ use mathlib.Core.List.{List, _++_}
 use mathlib.Core.Option.{Option, none, some}
 use Rattle.rules.specs.steps.Replies.{Refusal, refusalNumber}
 use Rattle.limits.specs.Limits.{mostHandlers}
-use Rattle.layout.specs.Rows.{rows}
-use Rattle.text.specs.Bytes.{ascii, decimal}
-use Rattle.lines.specs.Texts.{newline}
+use Rattle.text.specs.Bytes.{ascii, newline, decimal, inTurn}
 use Rattle.counts.specs.Counting.{column, begun, committed, torn, overtaken, spent, gaveUp}
 use Rattle.sheets.specs.Sheets.{counted}
 
@@ -31,7 +29,7 @@ rowText handler count =
 
 -- The lines of a sheet, one after another. Words that are missing count as 0.
 abbrev pub sheetText : List ℕ → List ℕ
-sheetText words = rows mostHandlers (λ handler. rowText handler (counted words handler))
+sheetText words = inTurn mostHandlers (λ handler. rowText handler (counted words handler))
 
 -- The longest line of a handler, in bytes: 59 letters, and seven numbers.
 abbrev pub longestRow : ℕ

@@ -1,10 +1,11 @@
--- Bytes put one after another into a buffer are put together.
+-- Bytes put one after another into a buffer are put together, and so are texts.
 use Prim.Native.Nat.{ℕ, zero, suc, _+_, _≤_, _<_}
 use mathlib.Core.Path.{_≡_, refl, sym, ap, _∙_, subst}
 use mathlib.Core.List.{List, [], _∷_, _++_, append-assoc, append-nil}
 use native.Mathlib.Omega.{arith}
 use lib.ListN.{length, getD, set, take, length-append, length-set}
 use lib.Seq.{take-suc, take-length, set-out}
+use Rattle.text.specs.Bytes.{inTurn}
 use Rattle.text.specs.Lies.{over, Puts}
 
 -- ── A text over a buffer ──────────────────────────────────────────────
@@ -71,6 +72,21 @@ puts-next bytes k {at} {end = end} {x} {z = z} within p q =
 -- and all of them.
 pub puts-all : (bytes : List ℕ) {at end : ℕ} {x y : List ℕ} → Puts (take (length bytes) bytes) at end x y → Puts bytes at end x y
 puts-all bytes {at} {end} {x} {y} = subst (λ t. Puts t at end x y) (take-length bytes)
+
+-- ── Texts, one after another ──────────────────────────────────────────
+
+-- No text is put anywhere,
+pub in-turn-none : (text : ℕ → List ℕ) {at : ℕ} {buffer : List ℕ} → Puts (inTurn 0 text) at at buffer buffer
+unfolding inTurn
+in-turn-none text = puts-none
+
+-- and the next behind those before it.
+pub in-turn-more : (text : ℕ → List ℕ) (k : ℕ) {at mid end : ℕ} {before between after : List ℕ}
+    → Puts (inTurn k text) at mid before between → Puts (text k) mid end between after → Puts (inTurn (k + 1) text) at end before after
+unfolding inTurn
+in-turn-more text k so-far next =
+    let one-more : k + 1 ≡ suc k = omega arith in
+    rw one-more (puts-both so-far next)
 
 -- ── A whole text ──────────────────────────────────────────────────────
 

@@ -6,7 +6,7 @@ mod take;
 
 pub use formed::step_formed;
 ghost use mathlib.Core.Path.{_≡_};
-ghost use Prim.Native.Nat.{_≤_};
+ghost use Prim.Native.Nat.{ℕ, _≤_};
 ghost use Rattle.rules.specs.steps.Codes.{Sheet};
 ghost use Rattle.rules.specs.steps.Register.{hasOpen};
 ghost use Rattle.limits.specs.Limits.{mostHandlers};
@@ -15,10 +15,13 @@ ghost use Rattle.promises.specs.Bodies.{BodyPromise};
 ghost use Rattle.replies.specs.Meaning.{replyIs};
 ghost use Rattle.checks.specs.Meaning.{kindIs};
 ghost use Rattle.steps.specs.Takes.{Formed, WholeBody};
+ghost use Rattle.turns.specs.Meaning.{turnedIs};
 use crate::take::take;
 use checks::Kind;
 use checks::Verdict;
 use replies::Answer;
+use replies::Outcome;
+use replies::Refusal;
 use replies::Report;
 
 // Whether a handler's transaction is open; of handler n or above there is none.
@@ -33,34 +36,42 @@ fn has_open(body: &[u32], m: usize, n: usize, handler: u32) -> bool
     steps::is_open(body, m, n, i)
 }
 
-// Takes the step of a handler, or refuses it. What its code stands for is the caller's to say: it holds under every sheet that gives
-// the code this kind.
-pub fn turn(
-    body: &mut [u32],
-    m: usize,
-    n: usize,
-    handler: u32,
-    code: u32,
-    kind: Kind,
-    value: u32,
-) -> Answer
+// What a turn comes to: the outcome of a step that is taken, or the refusal of one that is not. Who asked, and by which code, its caller
+// knows.
+pub enum Turned {
+    Took(Outcome),
+    Refused(Refusal),
+}
+
+// Takes the step of a handler, or refuses it. Which code asks for a step of this kind is the caller's to say: it holds of every code and
+// under every sheet that gives the code this kind.
+pub fn turn(body: &mut [u32], m: usize, n: usize, handler: u32, kind: Kind, value: u32) -> Turned
     requires { ⌜ WholeBody m n (now body) ⌝ }
-    ensures { λ r. ⌜ ((sheet : Sheet) → sheet code ≡ kindIs kind
-        → BodyPromise sheet m n (now (body .entry)) handler code value (replyIs r) (now (body .exit))) ⌝ }
+    ensures { λ r. ⌜ ((sheet : Sheet) (code : ℕ) → sheet code ≡ kindIs kind
+        → BodyPromise sheet m n (now (body .entry)) handler code value (turnedIs handler code r) (now (body .exit))) ⌝ }
 {
     let opened = has_open(body, m, n, handler);
     let handlers = n as u32;
     let verdict = checks::verdict_of(m, handlers, handler, kind, opened);
     match verdict {
-        Verdict::Refuses(refusal) => Answer::Refused(refusal),
+        Verdict::Refuses(refusal) => Turned::Refused(refusal),
         Verdict::Passes => {
             let i = handler as usize;
-            let outcome = take(body, m, n, i, kind, value);
-            Answer::Reported(Report {
-                handler,
-                code,
-                outcome,
-            })
+            Turned::Took(take(body, m, n, i, kind, value))
         }
+    }
+}
+
+// The answer to a handler's step by a code, by what its turn came to.
+pub fn answer_of(handler: u32, code: u32, turned: Turned) -> Answer
+    ensures { λ r. ⌜ replyIs r ≡ turnedIs handler code turned ⌝ }
+{
+    match turned {
+        Turned::Took(outcome) => Answer::Reported(Report {
+            handler,
+            code,
+            outcome,
+        }),
+        Turned::Refused(refusal) => Answer::Refused(refusal),
     }
 }

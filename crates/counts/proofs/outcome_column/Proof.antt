@@ -13,6 +13,7 @@ outcome-column-spec =
     (tie.spec
     (λ c. search needs)
     (λ c κs. search needs)
+    (λ c κs. search needs)
     (λ c. search needs)
     (λ c. search needs)
     (λ c. search needs)
@@ -20,7 +21,7 @@ outcome-column-spec =
     (λ c. search needs)
     (λ c. search needs)
     (λ c. search needs)
-    (λ c. rw (c .before .enum-told .given .1) (c .done-column .ensures))
+    (λ c. rw (c .before .before .enum-told .given .1, ← c .before .kind-of .ensures .replied) (c .done-column .ensures))
     (λ c. rw (c .enum-told2 .given .1) (at-none (omega arith)))
     (λ c. rw (c .enum-told3 .given .1) (at-count committed))
     (λ c. rw (c .before .before .before .outcome .given .1, c .enum-told4 .given .1) (at-count torn))

@@ -13,7 +13,6 @@ raised-column-spec =
     (tie.spec
     (λ c. search needs)
     (λ c κs. search needs)
-    (λ c κs. search needs)
     (λ c. search needs)
-    (λ c. rw (c .before .before .before .answer .given .1, ← c .before .kind-of .ensures .replied) (c .outcome-column .ensures))
+    (λ c. rw (c .before .before .answer .given .1) (c .outcome-column .ensures))
     (λ c. rw (c .enum-told .given .1) (at-none (omega arith))))

@@ -15,5 +15,9 @@ good-body-spec =
     -- looked at
     (λ c κs. search needs)
     (λ c κs. search needs)
+    (λ c κs. search needs)
     (λ c. search needs)
-    (λ c. no-fault _ _ _ _ (omega arith) (c .before .cells-faults .ensures) (c .blocks-faults .ensures)))
+    (λ c. search needs)
+    (λ c. let cells = c .before .before in
+    let blocks = cells .before .blocks-seen .ensures in
+    no-fault _ _ _ _ (omega arith) (blocks .0) (cells .cells-bits .ensures) (blocks .1) (c .before .word-fault .ensures)))

@@ -4,9 +4,9 @@ use mathlib.Core.Path.{_≡_}
 use native.Mathlib.Omega.{arith}
 use borrow.Author.Needs.{needs}
 use Rattle.text.specs.Lies.{Puts}
+use Rattle.text.proofs.Puts.{in-turn-none, in-turn-more}
 use Rattle.runs.specs.Players.{playerIs}
 use Rattle.prints.specs.ByPlaces.{shownCells}
-use Rattle.prints.proofs.Cells.{cells-none, cells-more}
 use Rattle.prints.proofs.put_cells.Statement.{statement}
 use Rattle.prints.proofs.put_cells.Tie as tie
 
@@ -23,7 +23,7 @@ put-cells-spec =
     (tie.spec
     Inv-loop
     μ-loop
-    (λ c. (omega arith, omega arith, cells-none _))
+    (λ c. (omega arith, omega arith, in-turn-none _))
     (λ c κs. search needs)
     (λ c κs. let loop = c .before .before .before .loop in omega (arith, loop .inv .0, loop .inv .1, c .before .before .before .before .before .before .pre))
     (λ c. omega arith)
@@ -32,7 +32,7 @@ put-cells-spec =
     let put = c .before .before .put-cell .ensures in (
       omega arith,
       omega (arith, loop .inv .1, put .1),
-      cells-more _ (loop .c) (loop .inv .2) (rw (c .before .before .before .before .cell-end .ensures .replied) at (put .0)),
+      in-turn-more _ (loop .c) (loop .inv .2) (rw (c .before .before .before .before .cell-end .ensures .replied) at (put .0)),
     ))
     (λ c. c .before .loop .inv .2 .size)
     (λ c. let loop = c .before .loop in

@@ -3,6 +3,7 @@ use mathlib.Core.Path.{sym, _∙_}
 use borrow.Author.Needs.{needs}
 use borrow.Author.Tests.{not-true, not-false}
 use Rattle.layout.proofs.Tested.{tested}
+use Rattle.checks.proofs.Tables.{entry-tells}
 use Rattle.register.proofs.Stepping.{malformed-stops}
 use Rattle.register.proofs.step.Statement.{statement}
 use Rattle.register.proofs.step.Tie as tie
@@ -16,6 +17,10 @@ step-spec =
     -- 10
     (λ c. malformed-stops _ _ _ _ (sym (c .before .well-formed .ensures) ∙ not-true _ (c .if1 .taken)))
     -- the step
-    (λ c κs. tested _ .0 (sym (c .before .before .well-formed .ensures) ∙ not-false _ (c .before .if1 .left)))
+    (λ c κs. search needs)
+    (λ c κs. let kept = c .before .before in tested _ .0 (sym (kept .before .well-formed .ensures) ∙ not-false _ (kept .if1 .left)))
+    (λ c κs. search needs)
     (λ c. search needs)
-    (λ c. c .before .before .step-formed .ensures .0))
+    (λ c. let stepped = c .before .before .before in
+    let asked = stepped .before .before in
+    rw (c .answer-of .ensures) (stepped .step-formed .ensures _ (entry-tells _ (asked .entry-of .ensures)) .0)))

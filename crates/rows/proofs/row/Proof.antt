@@ -37,13 +37,13 @@ row-spec =
     (λ c. row-short _ _ _ _ (formed (c .before .before))
     (not-false _ (sym (c .before .has-room .ensures) ∙ not-true _ (c .if2 .taken))))
     -- the steps
-    (λ c κs. let tests = c .before .before in (
-      tested _ .0 (formed (tests .before .before)),
-      omega arith,
-      ltb-false _ _ (room tests),
-    ))
+    (λ c κs. search needs)
+    (λ c. search needs)
+    (λ c κs. let tabled = c .before .before .before in
+    let tests = tabled .before in
+    (tabled .plain-table .ensures, (tested _ .0 (formed (tests .before .before)), omega arith, ltb-false _ _ (room tests))))
     (λ c. search needs)
     (λ c. search needs)
     (λ c. let taken = c .before .before .before .before in
-    let tests = taken .before .before .before in
+    let tests = taken .before .before .before .before .before in
     row-done _ _ _ _ (formed (tests .before .before)) (room tests) (taken .take-steps .ensures .0) (taken .take-steps .ensures .1)))

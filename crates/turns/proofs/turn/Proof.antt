@@ -46,13 +46,13 @@ turn-spec =
     body-ready (entry .pre) (entry .args .handler) (entry .args .value) (kindIs (entry .args .kind)) (passes told))
     (λ c. search needs)
     -- refused
-    (λ c sheet is. let verdict = c .before .before .before in
+    (λ c sheet code is. let verdict = c .before .before .before in
     let entry = start verdict in
-    body-stops (entry .pre) (entry .args .handler) (entry .args .value) _ (entry .args .code) sheet is _
+    body-stops (entry .pre) (entry .args .handler) (entry .args .value) _ code sheet is _
     (sym (said verdict) ∙ ap verdictIs (c .before .verdict .given .1)))
     (λ c. search needs)
     -- taken
-    (λ c sheet is. let told = c .before .before .before .before in
+    (λ c sheet code is. let told = c .before .before .before .before in
     let entry = start (told .before .before) in
-    body-takes (entry .pre) (entry .args .handler) (entry .args .value) _ (entry .args .code) sheet is (passes told)
+    body-takes (entry .pre) (entry .args .handler) (entry .args .value) _ code sheet is (passes told)
     (λ s e. c .before .before .take .ensures s e)))

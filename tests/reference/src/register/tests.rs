@@ -1,4 +1,5 @@
-//! The register by cases of docs/RULES.md, the cell that an abort names, and the order of the refusals of a give up.
+//! The register by cases of docs/RULES.md, the cell that an abort names, the order of the refusals of a give up, and the codes of
+//! docs/CODES.md.
 use super::*;
 
 /// The replies to some steps on a fresh register, and the words then.
@@ -164,4 +165,26 @@ fn the_order_of_refusals_of_a_give_up() {
     assert_eq!([refused(1, 2), refused(0, 2), refused(16, 3), refused(0, 3)], [11, 14, 15, 15].map(Reply::Refused));
     words[8] = 2;
     assert_eq!(step(&mut words, 1, 2, 0), Reply::Refused(10));
+}
+
+/// The row of a code on the page of codes.
+fn row(code: u32) -> String {
+    let (step, cell) = match decode(code) {
+        Some(Step::Begin) => ("begin", 0),
+        Some(Step::Try) => ("try", 0),
+        Some(Step::GiveUp) => ("give up", 0),
+        Some(Step::Read(cell)) => ("read", cell),
+        Some(Step::Write(cell)) => ("write", cell),
+        None => ("unknown", 0),
+    };
+    format!("| {code:4} | {step:7} | {cell:4} |")
+}
+
+#[test]
+fn the_codes_are_those_of_the_page() {
+    let page = std::fs::read_to_string(concat!(env!("CARGO_MANIFEST_DIR"), "/../../docs/CODES.md")).expect("docs/CODES.md");
+    let heads = page.lines().position(|line| line.starts_with("|-")).expect("a table");
+    let rows: Vec<&str> = page.lines().skip(heads + 1).collect();
+    assert_eq!(rows, (0..256).map(row).collect::<Vec<_>>());
+    assert!((256..1_000).chain([u32::MAX]).all(|code| decode(code).is_none()));
 }
