@@ -1,6 +1,8 @@
 // What the judge asks of its words: the writer of a cell's present version, by which cell a first read is torn, which version read is
 // stale, and what cells and copies show. All of it is told by the commits and the deeds that the words say.
 // Internal: called by our crates alone, which show what each function requires.
+#![tactic(auto)]
+
 ghost use Rattle.std.specs.Prelude.{◌≡◌, ◌&&◌, ◌||◌, ℕ, ◌≤◌, ◌<◌, length, ltb};
 ghost use Rattle.rules.specs.steps.Tables.{lowest};
 ghost use Rattle.rules.specs.history.History.{has_read, has_written, writer, every_commit};

@@ -1,5 +1,7 @@
 // What a step does to one handler's block, a lent part of the register's words: begin, write, what joins a transaction, and its end.
 // Internal: called by our crates alone, which show what each function requires.
+#![tactic(auto)]
+
 ghost use Rattle.std.specs.Prelude.{◌≡◌, ◌<◌, ◌≤◌, max};
 ghost use Rattle.limits.specs.Limits.{most_number};
 ghost use Rattle.rules.specs.steps.Register.{idle};

@@ -1,5 +1,7 @@
 // What a step code stands for, by a table, and what the checks of a step say of it. PUBLIC: nothing here has a `requires`.
 // Shared by all that take steps, with the words of a register or without them: a code is read and a step is refused in one place.
+#![tactic(auto)]
+
 mod kinds;
 mod sheet;
 

@@ -1,4 +1,5 @@
 // Prints the page of step codes, as the fitters' manual has it, so that the desk's comparison is a `diff`. It reads nothing.
+#![tactic(auto)]
 
 // Puts the page into a buffer with room for all of it, and writes it.
 fn main() {

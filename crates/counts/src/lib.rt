@@ -1,5 +1,7 @@
 // One handler's counts of a duty sheet: which count an answer to a step raises, and counts brought up to date with it, by value and where
 // they stand. Internal: called by `sheets` alone.
+#![tactic(auto)]
+
 ghost use Rattle.rules.specs.steps.Codes.{plain_sheet};
 ghost use Rattle.rules.specs.steps.Replies as Rules;
 ghost use Rattle.replies.specs.Meaning.{outcome_is, reply_is};

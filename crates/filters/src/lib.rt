@@ -1,6 +1,8 @@
 // What every program here does at its two ends: a file is read to its end, and a text is written to standard output. A read or a write
 // that fails is said on standard error, and never taken for an answer.
 // Internal: called by our programs alone. The kit can't say what is read or written.
+#![tactic(auto)]
+
 ghost use Rattle.std.specs.Prelude.{◌≤◌, ◌≡◌, length};
 ghost use Rattle.io.specs.Counts.{IsPrefixLen};
 ghost use Rattle.limits.specs.Limits.{most_printed};

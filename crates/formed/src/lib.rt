@@ -1,5 +1,7 @@
 // Whether words are a register. Faults are gathered over whole rows and looked at once, so that a row needs no early exit.
 // Internal: called by our crates alone, which show what each function requires.
+#![tactic(auto)]
+
 ghost use Rattle.std.specs.Prelude.{◌≡◌, ◌↔◌, ℕ, ◌*◌, ◌≤◌, ◌<◌, length};
 ghost use Rattle.limits.specs.Limits.{most_cells, most_handlers, most_number};
 ghost use Rattle.layout.specs.Places.{body_long, handler_long, cell_part, handler_part, number_in};

@@ -1,5 +1,7 @@
 // The register for programs in C and Rust: exported functions on numbers and words, thin over `register`, `rows`, `prints` and `sheets`.
 // PUBLIC: nothing here has a `requires`. Each promise is the register's, a row's or a sheet's, said of numbers, or a whole run's.
+#![tactic(auto)]
+
 ghost use Rattle.std.specs.Prelude.{◌≡◌, ◌+◌, ◌*◌, ◌^◌, ◌≤◌};
 ghost use Rattle.prints.specs.Printed.{RunPromise, JudgedRunPromise};
 ghost use Rattle.replies.specs.Meaning.{reply_is};

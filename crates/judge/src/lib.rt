@@ -1,5 +1,7 @@
 // The judge: steps answered from the history alone, noted in words that the caller lends, at most 64 commits. It keeps no vectors.
 // PUBLIC: nothing here has a `requires`. Each promise fixes the reply and every word of the buffer, for all inputs.
+#![tactic(auto)]
+
 mod reading;
 mod taking;
 

@@ -1,4 +1,6 @@
 // Opens registers of several sizes and prints what is replied: K1 and K13 of docs/RULES.md.
+#![tactic(auto)]
+
 use libc::STDOUT_FILENO;
 use limits::{MOST_CELLS, MOST_HANDLERS, REGISTER_WORDS};
 use register::Needed;

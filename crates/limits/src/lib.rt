@@ -1,5 +1,7 @@
 // The numbers of the rules (docs/RULES.md) and of our layouts, each said once, and the range of a register's cells and handlers.
 // PUBLIC: nothing here has a `requires`.
+#![tactic(auto)]
+
 ghost use Rattle.limits.specs.Ranges.{RangePromise};
 
 // The most cells that a register has.

@@ -1,5 +1,7 @@
 // The lines of a run: what an order place shows, and the bytes of each line, put into a lent buffer.
 // Internal: called by our crates alone, which show what each function requires. A place's line fits in `limits::LONGEST_LINE` bytes.
+#![tactic(auto)]
+
 ghost use Rattle.std.specs.Prelude.{◌+◌, ◌*◌, ◌≤◌};
 ghost use Rattle.limits.specs.Limits.{most_file_bytes, longest_line};
 ghost use Rattle.std.proofs.Math.Option.{some};

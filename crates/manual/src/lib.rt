@@ -1,6 +1,8 @@
 // The page of step codes, as the fitters' manual prints it: a heading, and a row for each code with its step and its cell, put into a lent
 // buffer and counted whether it fits or not, as C's snprintf does. What a code stands for is asked of `checks`, as for every step.
 // PUBLIC: `put_codes` has no `requires`; its promise fixes the reply and every byte of the buffer, for all buffers.
+#![tactic(auto)]
+
 ghost use Rattle.std.specs.Prelude.{◌+◌, ◌≤◌, ◌<◌, ◌≡◌};
 ghost use Rattle.rules.specs.steps.Codes.{plain_sheet};
 ghost use Rattle.checks.specs.Meaning.{kind_is};

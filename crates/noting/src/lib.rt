@@ -1,5 +1,7 @@
 // What the judge notes in its words: a row begun or ended, a read, a write, a commit.
 // Internal: called by our crates alone, which show what each function requires.
+#![tactic(auto)]
+
 ghost use Rattle.std.specs.Prelude.{◌≡◌, ◌+◌, ◌*◌, ◌^◌, ◌≤◌, ◌<◌, length, get_or};
 ghost use Rattle.limits.specs.Limits.{most_cells, most_handlers, most_commits, ledger_rows};
 ghost use Rattle.layout.specs.Places.{handlers_of, written_at, handler_row, commit_row};

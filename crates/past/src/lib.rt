@@ -1,5 +1,7 @@
 // A transaction's causal past over the judge's words, as marks of the commits in it. A commit already marked is not asked again.
 // Internal: called by our crates alone, which show what each function requires.
+#![tactic(auto)]
+
 ghost use Rattle.std.specs.Prelude.{◌≡◌, ℕ, ◌≤◌, ◌<◌, length};
 ghost use Rattle.rules.specs.history.Past.{last_of};
 ghost use Rattle.limits.specs.Limits.{most_cells, ledger_rows};

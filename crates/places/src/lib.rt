@@ -1,6 +1,8 @@
 // Where things lie: the one crate that knows an offset. A place is a constant where it does not depend on the numbers of cells and
 // handlers, and else a function of them.
 // Internal: called by our crates alone, which show what each function requires.
+#![tactic(auto)]
+
 mod body;
 mod ledger;
 mod row;

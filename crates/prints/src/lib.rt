@@ -1,6 +1,8 @@
 // A whole run of a schedule file as one operation on slices: everything that is printed of it is put into a lent buffer, and counted
 // whether it fits or not, as C's snprintf does.
 // PUBLIC: `run` and `judge` have no `requires`; each promise fixes the reply and every byte of the buffer, for all files and buffers.
+#![tactic(auto)]
+
 ghost use Rattle.std.specs.Prelude.{◌+◌, ◌*◌, ◌≤◌};
 ghost use Rattle.limits.specs.Limits.{most_cells, most_file_bytes, longest_line, most_printed};
 ghost use Rattle.text.specs.Lies.{Puts};

@@ -1,5 +1,7 @@
 // A transactional register over words that the caller lends: opening it, steps of its handlers, and what is shown of a cell.
 // PUBLIC: nothing here has a `requires`. Each promise fixes the reply and every word of the buffer, for all inputs.
+#![tactic(auto)]
+
 ghost use Rattle.promises.specs.Opening.{OpeningPromise};
 ghost use Rattle.promises.specs.Stepping.{StepPromise};
 ghost use Rattle.promises.specs.Lengths.{LengthPromise};

@@ -1,5 +1,7 @@
 // The replies of a register, as its callers see them: a report with an outcome with a reason, or a refusal; their numbers; and what is
 // shown of a cell at the end. PUBLIC: nothing here has a `requires`.
+#![tactic(auto)]
+
 ghost use Rattle.std.specs.Prelude.{◌≡◌};
 ghost use Rattle.rules.specs.steps.Tables.{place_of};
 ghost use Rattle.rules.specs.steps.Replies.{reason_cell, content_numbers};

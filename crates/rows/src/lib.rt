@@ -1,6 +1,8 @@
 // Many steps in one call: a row of steps, a register and words for the reports, all lent by the caller. The register is tested once, and the
 // table of step codes is asked for once.
 // PUBLIC: `row` has no `requires`; its promise fixes the reply, every word of the register, of the reports and around them.
+#![tactic(auto)]
+
 ghost use Rattle.std.specs.Prelude.{◌≡◌, not, ◌+◌, ◌*◌, ◌≤◌, ltb, length, take};
 ghost use Rattle.rules.specs.steps.Codes.{plain_sheet};
 ghost use Rattle.limits.specs.Limits.{step_width, report_width};

@@ -1,5 +1,6 @@
 // Runs the schedule file on standard input and prints what `prints::run` says of it: a header, a line for each order place, then each
 // cell, or a refused file's one line.
+#![tactic(auto)]
 
 // Reads, runs and writes. One byte more than a file may have is read, so that a file that is too long is noticed.
 // A file that can't be read is no answer: nothing is printed of it.

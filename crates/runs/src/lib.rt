@@ -1,6 +1,8 @@
 // The run of a schedule file, one order place after another, whoever answers its steps: the register or the judge.
 // Internal: called by `prints` and `sheets` alone, which admit a file before its first place. Nothing here has a `requires`, and each
 // promise fixes the reply and every word of the player's.
+#![tactic(auto)]
+
 ghost use Rattle.std.specs.Prelude.{◌≡◌};
 ghost use Rattle.replies.specs.Meaning.{reply_is, opening_is};
 ghost use Rattle.replies.specs.Ends.{end_is};

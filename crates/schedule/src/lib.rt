@@ -1,5 +1,7 @@
 // The schedule file: its admission, a handler's script as a part of it, and the next step at an order place.
 // PUBLIC: nothing here has a `requires`. Each promise fixes the reply for every file, whatever its bytes and its length.
+#![tactic(auto)]
+
 mod scripts;
 mod sound;
 mod table;

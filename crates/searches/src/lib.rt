@@ -1,6 +1,8 @@
 // The tests of a first read and of a try, over a set of cells: only the cells of the set are looked at, the lowest first, and their
 // numbers where they lie. m is there for the contracts where no place needs it.
 // Internal: called by our crates alone, which show what each function requires.
+#![tactic(auto)]
+
 ghost use Rattle.std.specs.Prelude.{◌≡◌, ◌+◌, ◌≤◌, length};
 ghost use Rattle.rules.specs.steps.Tables.{lowest};
 ghost use Rattle.words.specs.Sets.{found_is};

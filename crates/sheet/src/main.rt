@@ -1,6 +1,8 @@
 // Adds the schedule files that its arguments name to a duty sheet, one after another, and prints what comes of each: its name with `ok`,
 // or with the number that it was refused with. Then it prints the sheet, a line for each handler.
 // Where a file can't be opened or read, that is said on standard error; nothing of it is counted or printed, and the next file follows.
+#![tactic(auto)]
+
 ghost use Rattle.std.specs.Prelude.{◌≤◌, length};
 ghost use Rattle.summary.specs.Texts.{longest_name};
 

@@ -1,6 +1,8 @@
 // The duty sheet over many schedule files: a row of counts for each handler, in words that the caller lends; the run of each file that
 // is added is counted into it.
 // PUBLIC: `add_file` has no `requires`; its promise fixes the reply and every word of the sheet, for all words and files.
+#![tactic(auto)]
+
 ghost use Rattle.std.specs.Prelude.{◌≡◌, ◌+◌, ◌≤◌, length};
 ghost use Rattle.limits.specs.Limits.{most_file_bytes};
 ghost use Rattle.words.specs.Rows.{Changed};

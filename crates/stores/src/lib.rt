@@ -1,6 +1,8 @@
 // What a commit stores, where the words lie: the numbers of the written cells are raised in the transaction's row, and then each written
 // cell takes its copy and that row. All numbers are raised before the first cell is stored.
 // Internal: called by our crates alone, which show what each function requires.
+#![tactic(auto)]
+
 ghost use Rattle.std.specs.Prelude.{◌≡◌, ◌+◌, ◌<◌, get_or};
 ghost use Rattle.layout.specs.Bits.{has_bit};
 ghost use Rattle.layout.specs.Rows.{splice};

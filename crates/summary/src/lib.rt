@@ -2,6 +2,8 @@
 // counted whether it fits or not, as C's snprintf does.
 // PUBLIC: `put_sheet` has no `requires`; its promise fixes the reply and every byte of the buffer, for all words and buffers.
 // `put_added` is called by our program alone, which shows that a name is no longer than a path can be.
+#![tactic(auto)]
+
 ghost use Rattle.std.specs.Prelude.{◌+◌, ◌≤◌, ◌<◌, ◌≡◌, ◌++◌, length};
 ghost use Rattle.limits.specs.Limits.{most_handlers};
 ghost use Rattle.text.specs.Bytes.{decimal};

@@ -1,5 +1,7 @@
 // Bytes, texts and numbers put into a lent buffer as far as there is room, and counted all the same.
 // Internal: called by our crates alone, which show what each function requires.
+#![tactic(auto)]
+
 ghost use Rattle.std.specs.Prelude.{◌+◌, ◌≤◌, length, List, [], ◌∷◌};
 ghost use Rattle.text.specs.Bytes.{decimal};
 ghost use Rattle.text.specs.Lies.{Puts, farthest};

@@ -1,6 +1,8 @@
 // A turn on a register's body, whatever stands in front of it: the checks of a step, then the step; and the plain register's step, with no
 // test of 10.
 // Internal: called by our crates alone, which show what each function requires.
+#![tactic(auto)]
+
 mod formed;
 mod take;
 

@@ -1,5 +1,7 @@
 // Sets of cells in a word, what is found among cells, and rows of words: cleared, copied and copied out.
 // Internal: called by our crates alone, which show what each function requires.
+#![tactic(auto)]
+
 ghost use Rattle.std.specs.Prelude.{◌≡◌, true, ◌⊎◌, ◌+◌, ◌≤◌, ◌<◌, length, get_or};
 ghost use Rattle.rules.specs.steps.Register.{zeros};
 ghost use Rattle.limits.specs.Limits.{most_cells};

@@ -163,6 +163,7 @@ k11_other_order = record { looks = looks; repeats = repeats }
         → after sooner table y ≡ v
     looks y source v sooner last = refl
     looks y source v sooner (older last) = refl
+    looks y source v sooner (older (older q)) = elim q [ ]
 
     repeats : (y : ℕ) (v : Content ℕ) (sooner : List (Deed ℕ)) → Stands (look 0 2 (value 4) ∷ look 1 1 (value 3) ∷ []) (again y v) sooner
         → after sooner table y ≡ v

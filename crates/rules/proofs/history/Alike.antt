@@ -67,7 +67,7 @@ module _ {W : Type 0} where
   -- Commits are the same as themselves,
   pub commits_refl : {a : List (Commit W)} → SameCommits a a
   commits_refl {a = []} = none
-  commits_refl {a = c ∷ a} = more refl deeds_refl commits_refl
+  commits_refl {a = c ∷ a} = more refl deeds_refl (commits_refl {a = a})
 
   -- both ways,
   pub commits_sym : {a b : List (Commit W)} → SameCommits a b → SameCommits b a

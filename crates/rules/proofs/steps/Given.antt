@@ -9,7 +9,7 @@ use lib.Dec.{leb, ltb}
 use borrow.Author.Tests.{leb-true, leb-false, le-leb, lt-leb, ltb-true, lt-ltb}
 use Rattle.rules.specs.steps.Codes.{Step, begin, try, give_up, read, write, Kind, known, unknown}
 use Rattle.rules.specs.steps.Replies.{Refusal, not_well_formed, no_handler, no_cell, already_open, not_open, unknown_step, out_of_range}
-use Rattle.rules.specs.steps.Replies.{too_short}
+use Rattle.rules.specs.steps.Replies.{too_short, bad_file, used_up, too_many_commits, sheet_full, no_room}
 use Rattle.rules.specs.steps.Checks.{Check, ◌when◌, first_hit, Asked, is_beyond, is_begin, step_checks, in_range, opening_checks}
 use Rattle.rules.specs.steps.Given.{Within, Beyond, Late, Heard, Fitting, Given, malformed, unlisted, unseated, outside, twice, early, phase_for, Free}
 use Rattle.rules.specs.steps.Given.{InRange, OpeningGiven, wrong_counts, wrong_length}
@@ -128,6 +128,13 @@ module _ (a : Asked) where
   given_says no_handler (unseated s e k l) = rw (e, k, le-leb a.handler_count a.handler l)
   given_says no_cell (outside s h b) = heard_says s h ∙ rw (beyond_test a.cell_count s b)
   given_says already_open (twice p o) = fitting_says begin p ∙ rw o
+  given_says out_of_range g = elim g [ ]
+  given_says too_short g = elim g [ ]
+  given_says bad_file g = elim g [ ]
+  given_says used_up g = elim g [ ]
+  given_says too_many_commits g = elim g [ ]
+  given_says sheet_full g = elim g [ ]
+  given_says no_room g = elim g [ ]
   given_says not_open (early s p l o) = fitting_says s p ∙ late s l
     where
       late : (s : Step) → Late s → phased s ≡ some not_open
@@ -228,6 +235,17 @@ opening_exactly m n long need = exactly (OpeningGiven m n long need) hits decide
     hits : (f : Refusal) → OpeningGiven m n long need f → first_hit (opening_checks m n long need) ≡ some f
     hits out_of_range (wrong_counts o) = rw (out o)
     hits too_short (wrong_length r l) = rw ((range_tested m n).1 r, lt-ltb long need l)
+    hits not_well_formed g = elim g [ ]
+    hits no_handler g = elim g [ ]
+    hits no_cell g = elim g [ ]
+    hits already_open g = elim g [ ]
+    hits not_open g = elim g [ ]
+    hits unknown_step g = elim g [ ]
+    hits bad_file g = elim g [ ]
+    hits used_up g = elim g [ ]
+    hits too_many_commits g = elim g [ ]
+    hits sheet_full g = elim g [ ]
+    hits no_room g = elim g [ ]
 
     decided : ((f : Refusal) × OpeningGiven m n long need f) ⊎ (first_hit (opening_checks m n long need) ≡ none)
     decided = by (in_range m n)
