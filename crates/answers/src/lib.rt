@@ -20,7 +20,7 @@ use replies::Content;
 use words::Found;
 
 // A version of a cell: the place of the commit that wrote it, 0 for the opening's, and its number among the cell's versions.
-#[derive(Drop)]
+#[derive(Clone, Copy)]
 pub struct Version {
     pub writer: usize,
     pub number: u32,

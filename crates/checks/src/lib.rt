@@ -19,7 +19,7 @@ pub use sheet::plain_table;
 pub const CODES: usize = 256;
 
 // What a step code stands for. In the entries of a table the kinds are numbered in this order, from 0 on.
-#[derive(Drop)]
+#[derive(Clone, Copy)]
 pub enum Kind {
     Unknown,
     Begin,
@@ -30,7 +30,7 @@ pub enum Kind {
 }
 
 // What the checks of a step say.
-#[derive(Drop)]
+#[derive(Clone, Copy)]
 pub enum Verdict {
     Passes,
     Refuses(Refusal),

@@ -13,7 +13,7 @@ use checks::{Kind, kind_of};
 use replies::{Answer, Outcome, Reason};
 
 // One handler's counts.
-#[derive(Drop)]
+#[derive(Clone, Copy)]
 pub struct Counts {
     pub begun: u32,
     pub committed: u32,

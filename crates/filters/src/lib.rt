@@ -10,7 +10,7 @@ ghost use Rattle.limits.specs.Limits.{most_printed};
 use libc::{STDIN_FILENO, STDOUT_FILENO};
 
 // What was read: how many bytes stand at the start of the buffer, and whether no read failed.
-#[derive(Drop)]
+#[derive(Clone, Copy)]
 pub struct Reading {
     pub count: usize,
     pub whole: bool,

@@ -60,7 +60,7 @@ fn front_faults(block: &[u32], m: usize, last: u32) -> u64
 }
 
 // What is seen of all handlers: the bits of their numbers, and the faults in front of these.
-#[derive(Drop)]
+#[derive(Clone, Copy)]
 struct Seen {
     bits: u32,
     faults: u64,

@@ -16,7 +16,7 @@ use replies::{Answer, Content, End, Outcome, Reason, Refusal};
 use text::{put_number, put_text};
 
 // What a place shows: nothing where the order has no such place, a refusal where no step was taken, or the answer to a step.
-#[derive(Drop)]
+#[derive(Clone, Copy)]
 pub enum Shown {
     Nothing,
     NoStep {

@@ -5,7 +5,7 @@ ghost use Rattle.layout.specs.Places.{body_long, cell_long, handler_long, cell_s
 ghost use Rattle.places.specs.Spans.{Spans};
 
 // A part of the words: its first place, and the place behind it.
-#[derive(Drop)]
+#[derive(Clone, Copy)]
 pub struct Span {
     pub start: usize,
     pub end: usize,

@@ -17,7 +17,7 @@ use runs::Player;
 use schedule::Admitted;
 
 // Where the lines of a run end in a buffer, and whether the run came to its end.
-#[derive(Drop)]
+#[derive(Clone, Copy)]
 struct Told {
     end: usize,
     whole: bool,

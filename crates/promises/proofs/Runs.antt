@@ -111,7 +111,7 @@ goes_on : {m n : ℕ} {done : List (Ask ℕ)} {words : List ℕ} {h : History �
     → (asks : List (Ask ℕ)) → Ran m n (done ++ asks)
 goes_on {m} {n} {done} ran [] = subst (Ran m n) (sym (append-nil done)) (record { words = _; history = _; run = ran })
 goes_on {m} {n} {done} ran (a ∷ asks) = subst (Ran m n) (append_assoc done (a ∷ []) asks)
-    (goes_on (stepped a ran (record { replied = refl; left = refl })) asks)
+    (goes_on {done = done ++ a ∷ []} (stepped a ran (record { replied = refl; left = refl })) asks)
 
 -- The checks of an opening say nothing where m and n are in range, and there are as many words as are needed.
 pub checks_pass : (m n long need : ℕ) → InRange m n → need ≤ long → first_hit (opening_checks m n long need) ≡ none

@@ -13,7 +13,7 @@ ghost use Rattle.register.specs.Ending.{EndPromise};
 use replies::{Answer, End, Opened, Refusal};
 
 // How many words a register needs, if m and n are in range.
-#[derive(Drop)]
+#[derive(Clone, Copy)]
 pub enum Needed {
     Words(usize),
     Nothing,

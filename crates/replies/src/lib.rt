@@ -9,7 +9,7 @@ ghost use Rattle.replies.specs.Meaning.{reason_is, content_is, outcome_is, reply
 ghost use Rattle.replies.specs.Numbers.{VersionPromise, ReasonPromise, RefusalPromise, OutcomePromise, NumbersPromise};
 
 // Why a transaction was aborted, and by which cell: the lowest that meets the condition.
-#[derive(Drop)]
+#[derive(Clone, Copy)]
 pub enum Reason {
     Torn(u8),
     Overtaken(u8),
@@ -18,14 +18,14 @@ pub enum Reason {
 }
 
 // What is shown of a cell: nothing where it was never written, and else its value.
-#[derive(Drop)]
+#[derive(Clone, Copy)]
 pub enum Content {
     Unset,
     Value(u32),
 }
 
 // What a step that is taken comes to.
-#[derive(Drop)]
+#[derive(Clone, Copy)]
 pub enum Outcome {
     Done,
     Shows(Content),
@@ -34,7 +34,7 @@ pub enum Outcome {
 }
 
 // A report names handler and step, and holds the outcome.
-#[derive(Drop)]
+#[derive(Clone, Copy)]
 pub struct Report {
     pub handler: u32,
     pub code: u32,
@@ -43,7 +43,7 @@ pub struct Report {
 
 // Why a step, an opening, a schedule file or an order place is refused, why the judge stops, why a sheet takes no file, and why a row is
 // not begun.
-#[derive(Drop)]
+#[derive(Clone, Copy)]
 pub enum Refusal {
     NotWellFormed,
     NoHandler,
@@ -61,14 +61,14 @@ pub enum Refusal {
 }
 
 // The answer to a step.
-#[derive(Drop)]
+#[derive(Clone, Copy)]
 pub enum Answer {
     Reported(Report),
     Refused(Refusal),
 }
 
 // The answer to an opening.
-#[derive(Drop)]
+#[derive(Clone, Copy)]
 pub enum Opened {
     Ready,
     Rejected(Refusal),
@@ -76,7 +76,7 @@ pub enum Opened {
 
 // An answer in numbers: its kind (0 ok, 1 value, 2 commit, 3 abort, 4 refused, 5 unset), its value or number, and the cell that it names;
 // each 0 where there is none.
-#[derive(Drop)]
+#[derive(Clone, Copy)]
 pub struct Numbers {
     pub kind: u32,
     pub detail: u32,
@@ -84,7 +84,7 @@ pub struct Numbers {
 }
 
 // What is shown of a cell at the end, if there is such a cell.
-#[derive(Drop)]
+#[derive(Clone, Copy)]
 pub enum End {
     Cell { content: Content, number: u32 },
     Missing,

@@ -16,7 +16,7 @@ ghost use Rattle.rows.specs.Meaning.{rowed_is};
 use replies::{Answer, Refusal};
 
 // What a row comes to: its steps are done, or it is refused and none is.
-#[derive(Drop)]
+#[derive(Clone, Copy)]
 pub enum Rowed {
     Done,
     Refused(Refusal),

@@ -17,14 +17,14 @@ use replies::{Answer, End, Opened};
 use schedule::{Cursors, Next};
 
 // Who answers the steps of a run.
-#[derive(Drop)]
+#[derive(Clone, Copy)]
 pub enum Player {
     Register,
     Judge,
 }
 
 // What a place shows, and the cursors afterwards.
-#[derive(Drop)]
+#[derive(Clone, Copy)]
 pub struct Placed {
     pub shown: Shown,
     pub cursors: Cursors,

@@ -18,34 +18,34 @@ use crate::taking::{Order, named_step, order_byte};
 use replies::Refusal;
 
 // The admission of a file: sound, with n and m, or refused.
-#[derive(Drop)]
+#[derive(Clone, Copy)]
 pub enum Admitted {
     Sound { handlers: u32, cells: u32 },
     Rejected(Refusal),
 }
 
 // Whether a handler's script is found.
-#[derive(Drop)]
+#[derive(Clone, Copy)]
 pub enum Found {
     Script,
     Missing(Refusal),
 }
 
 // A part of a file, by where it begins and how long it is.
-#[derive(Drop)]
+#[derive(Clone, Copy)]
 pub struct Part {
     pub offset: usize,
     pub length: usize,
 }
 
 // Of each handler, the place in its script up to which it is used up.
-#[derive(Drop)]
+#[derive(Clone, Copy)]
 pub struct Cursors {
     pub at: [usize; limits::HANDLER_TABLE],
 }
 
 // What comes next at an order place.
-#[derive(Drop)]
+#[derive(Clone, Copy)]
 pub enum Next {
     Rejected(Refusal),
     Over,
@@ -54,7 +54,7 @@ pub enum Next {
 }
 
 // What comes next, and the cursors afterwards.
-#[derive(Drop)]
+#[derive(Clone, Copy)]
 pub struct Step {
     pub next: Next,
     pub cursors: Cursors,

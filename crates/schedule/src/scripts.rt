@@ -11,7 +11,7 @@ use checks::Kind;
 use replies::Refusal;
 
 // What stands in front of what is left of a script.
-#[derive(Drop)]
+#[derive(Clone, Copy)]
 pub enum Front {
     Refuses(Refusal),
     Stands { code: u8, value: u32, long: usize },

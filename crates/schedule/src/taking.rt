@@ -10,7 +10,7 @@ use crate::{Cursors, Next, Step};
 use replies::Refusal;
 
 // What an order place holds: the handler that it names, if the file is sound and has such a place.
-#[derive(Drop)]
+#[derive(Clone, Copy)]
 pub enum Order {
     Rejected,
     Over,

@@ -24,7 +24,7 @@ use runs::Player;
 use schedule::Admitted;
 
 // What adding a file comes to: its run is counted, or it is refused and nothing is.
-#[derive(Drop)]
+#[derive(Clone, Copy)]
 pub enum Added {
     Counted,
     Refused(Refusal),

@@ -36,7 +36,7 @@ fn has_open(body: &[u32], m: usize, n: usize, handler: u32) -> bool
 
 // What a turn comes to: the outcome of a step that is taken, or the refusal of one that is not. Who asked, and by which code, its caller
 // knows.
-#[derive(Drop)]
+#[derive(Clone, Copy)]
 pub enum Turned {
     Took(Outcome),
     Refused(Refusal),

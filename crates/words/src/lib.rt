@@ -10,7 +10,7 @@ ghost use Rattle.words.specs.Rows.{Changed, RowOf};
 ghost use Rattle.words.specs.Sets.{Lowest, Without};
 
 // What a search among the cells finds: the lowest cell that passes its test, or none.
-#[derive(Drop)]
+#[derive(Clone, Copy)]
 pub enum Found {
     Nothing,
     Cell(u8),
