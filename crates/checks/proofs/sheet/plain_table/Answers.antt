@@ -2,12 +2,8 @@
 use mathlib.Core.Path.{refl}
 use Rattle.rules.specs.steps.Codes.{plain_sheet}
 use Rattle.checks.specs.Entries.{entries_from}
-use Rattle.checks.proofs.sheet.plain_table.Statement.{statement}
-use Rattle.checks.proofs.sheet.plain_table.Tie as tie
+use Rattle.checks.proofs.sheet.plain_table.Goals as goal
 
-returns : tie.Need-returns
+pub returns : goal.returns
 unfolding plain_sheet entries_from
 returns c = record { replied = refl; left = refl }
-
-pub plain_table_spec : {M : Type 1} → statement M
-plain_table_spec = tie.close (tie.spec returns)

@@ -8,29 +8,30 @@ use Rattle.rules.specs.steps.Register.{idle}
 use Rattle.layout.specs.View.{word_setting, pour_handler}
 use Rattle.layout.proofs.Blocks.{poured_handler}
 use Rattle.block.proofs.Headed.{settles}
-use Rattle.block.proofs.settle.Statement.{statement}
-use Rattle.block.proofs.settle.Tie as tie
+use Rattle.block.proofs.settle.Goals as goal
+use Rattle.block.proofs.settle.Goals.{After-copy, After-slice_known-3-1, Start}
 
 -- Where the numbers are copied, seen from the end.
-abbrev copied : tie.After-slice-known3 → tie.After-copy
+abbrev copied : After-slice_known-3-1 → After-copy
 copied c = c.before.before.before.before.before.before
 
 -- Where the function starts, seen from its end.
-abbrev start : tie.After-slice-known3 → tie.Start
+abbrev start : After-slice_known-3-1 → Start
 start c = (copied c).before.before.before.before
 
-pub settle_spec : {M : Type 1} → statement M
-settle_spec =
-    tie.close
-    (tie.spec
-    (λ c κs. search rules)
-    (λ c κs. (inr (omega arith), omega arith, omega arith))
-    (λ c κs. let copy = c.before.before.before in
+pub copy-requires : goal.copy-requires
+copy-requires c = (inr (omega arith), omega arith, omega arith)
+
+pub rest-requires : goal.rest-requires
+rest-requires c = let copy = c.before.before.before in
     let start = copy.before.before.before.before in
-    record { size = copy.copy.ensures.untouched.size ∙ start.requires.size; cells = start.requires.cells })
-    -- at the end
-    (λ c. ap length c.before.before.rest.ensures ∙ (poured_handler _ _).size ∙ sym (start c).requires.size)
-    (λ c. let at = copied c in
-    c.before.before.rest.ensures
+    record { size = copy.copy.ensures.untouched.size ∙ start.requires.size; cells = start.requires.cells }
+
+pub shape_of-block : goal.shape_of-block
+shape_of-block c = ap length c.rest.ensures ∙ (poured_handler _ _).size ∙ sym (start c).requires.size
+
+pub returns : goal.returns
+returns c = let at = copied c in
+    c.rest.ensures
     ∙ ap (λ numbers. pour_handler (start c).args.m (idle (word_setting (start c).args.m) numbers))
-    (settles at.before.before.transaction-numbers.ensures at.copy.ensures)))
+    (settles at.transaction_numbers-transaction.ensures at.copy.ensures)

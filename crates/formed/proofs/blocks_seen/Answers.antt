@@ -1,0 +1,118 @@
+-- `formed::blocks_seen` meets its contract: of the blocks passed, the faults of their fronts are gathered and what their numbers say
+-- is laid over the bits.
+use Prim.Native.Nat.{◌+◌, ◌-◌, ◌≤◌, ◌<◌}
+use mathlib.Core.Logic.Iff
+use native.Mathlib.Omega.{arith}
+use lib.ListN.{length}
+use Rattle.layout.specs.Places.{cell_start, handler_start, handler_long, handler_part}
+use Rattle.places.specs.Spans.{Spans}
+use Rattle.places.proofs.Lent.{lent_part, lent_length}
+use Rattle.formed.specs.Faults.{NumbersFit, GoodFront, front_most}
+use Rattle.formed.proofs.Gathers.{Told, Gathered, told_none, told_more, told_besides, gathered_none, gathered_more, faults_both, faults_same}
+use Rattle.formed.proofs.Walks.{Walked, walk_starts, row_there, row_inside, walk_goes, walk_ends}
+use Rattle.formed.proofs.Parts.{BlocksLaid, blocks_laid, behind_length, block_span}
+use Rattle.formed.proofs.blocks_seen.Goals as goal
+use Rattle.formed.proofs.blocks_seen.Goals.{After-block_at-block, After-body_words-end, In-loop-at, Start}
+
+-- The function's start, seen from where the lengths are known.
+abbrev start : After-body_words-end → Start
+start c = c.before.before.before.before.before
+
+-- Where the first block lies.
+abbrev block : After-body_words-end → After-block_at-block
+block c = c.before.before.before
+
+-- The lengths that the walk is made with.
+laid : (c : After-body_words-end) → let span = (block c).block_at-block.result in
+    BlocksLaid (start c).args.m (start c).args.n span.start (span.end - span.start) c.transaction_numbers-behind.result c.body_words-end.result
+laid c =
+    blocks_laid ((start c).requires.0, (start c).requires.1) (block c).block_at-block.ensures c.transaction_numbers-behind.ensures c.body_words-end.ensures
+
+-- Where the lengths are known, seen from a turn.
+abbrev known : In-loop-at → After-body_words-end
+known c = c.before.before
+
+-- The block at hand ends where the words do or before.
+ends : (c : In-loop-at) → let args = (start (known c)).args in c.loop-at.at + handler_long args.m ≤ length args.body.now
+ends c = omega (arith, row_inside c.loop-at.invariant (omega (arith, (laid (known c)).whole)), (start (known c)).requires.2)
+
+-- There is a block at hand.
+here : (c : In-loop-at) → c.loop-at.invariant.row < (start (known c)).args.n
+here c = row_there c.loop-at.invariant (omega (arith, (laid (known c)).whole))
+
+-- Where it lies.
+spans : (c : In-loop-at) → let at = c.loop-at.at in let span = (block (known c)).block_at-block.result in
+    let m = (start (known c)).args.m in Spans (handler_start m c.loop-at.invariant.row) (handler_long m) at (at + (span.end - span.start))
+spans c = omega (arith, c.loop-at.invariant.place, (laid (known c)).row)
+
+pub block_at-block-requires : goal.block_at-block-requires
+block_at-block-requires c = (omega arith, omega arith)
+
+pub overflow_sub-long : goal.overflow_sub-long
+overflow_sub-long c = omega (arith, c.block_at-block.ensures.starts, c.block_at-block.ensures.ends)
+
+pub overflow_sub-ahead : goal.overflow_sub-ahead
+overflow_sub-ahead c = omega (arith, c.transaction_numbers-behind.ensures)
+
+pub body_words-end-requires : goal.body_words-end-requires
+body_words-end-requires c = (omega arith, omega arith)
+
+pub loop-at-init : goal.loop-at-init
+loop-at-init c = walk_starts (laid c).first (told_none _ _ (λ y h. absurd (omega arith)), gathered_none front_most _)
+
+pub overflow_add-next : goal.overflow_add-next
+overflow_add-next c = omega (arith, laid (known c))
+
+pub offset_bounds-body-ahead : goal.offset_bounds-body-ahead
+offset_bounds-body-ahead c = omega (arith, laid (known c))
+
+pub slice_bounds-span_bits-count : goal.slice_bounds-span_bits-count
+slice_bounds-span_bits-count c = omega (arith, (laid (known c)).front, ends c)
+
+pub slice_bounds-span_bits-start : goal.slice_bounds-span_bits-start
+slice_bounds-span_bits-start c = omega (arith, (laid (known c)).front, ends c)
+
+pub slice_bounds-span_bits-end : goal.slice_bounds-span_bits-end
+slice_bounds-span_bits-end c = omega (arith, (laid (known c)).front, ends c)
+
+pub overflow_add-at : goal.overflow_add-at
+overflow_add-at c = omega (arith, laid (known c.before))
+
+pub overflow_add-at-in-loop-at : goal.overflow_add-at-in-loop-at
+overflow_add-at-in-loop-at c = omega (arith, laid (known c.before))
+
+pub span_bits-bits-requires : goal.span_bits-bits-requires
+span_bits-bits-requires c = let turn = c.before in
+    let fewer = behind_length ((known turn).transaction_numbers-behind.result - 3) (start (known turn)).args.body.now in
+    omega (arith, (laid (known turn)).front, ends turn, fewer)
+
+pub offset_bounds-body-at : goal.offset_bounds-body-at
+offset_bounds-body-at c = omega (arith, laid (known c.before.before))
+
+pub slice_bounds-front_faults-end : goal.slice_bounds-front_faults-end
+slice_bounds-front_faults-end c = omega (arith, (laid (known c.before.before)).row, ends c.before.before)
+
+pub front_faults-faults-requires : goal.front_faults-faults-requires
+front_faults-faults-requires c = let turn = c.before.before.before in
+    (lent_length (spans turn) _ (omega (arith, turn.loop-at.invariant.place, ends turn)), omega arith)
+
+pub overflow_add-faults : goal.overflow_add-faults
+overflow_add-faults c = let turn = c.before.before.before.before in
+    omega (arith, c.front_faults-faults.ensures.small, turn.loop-at.invariant.known.1.small, here turn)
+
+pub loop-at-smaller : goal.loop-at-smaller
+loop-at-smaller c = omega (arith, (laid (known c.before.before.before.before)).row)
+
+pub loop-at-preserved : goal.loop-at-preserved
+loop-at-preserved c = let turn = c.before.before.before.before in
+    let walked = turn.loop-at.invariant in
+    let blocks = laid (known turn) in
+    let body = (start (known turn)).args.body.now in
+    let numbers = block_span _ body walked.row (omega (arith, walked.place)) (omega (arith, blocks.front)) (omega (arith, blocks.front)) in
+    let front = rw (lent_part (spans turn) body) at c.front_faults-faults.ensures in
+    walk_goes walked (omega (arith, blocks.row)) (here turn)
+    (told_more _ _ walked.known.0 c.span_bits-bits.ensures numbers, gathered_more front_most _ (faults_both walked.known.1 front))
+
+pub returns : goal.returns
+returns c = let all = walk_ends c.loop-at.invariant (omega arith) (omega (arith, (laid c.before.before).whole)) in
+    (told_besides (omega arith) all.0, faults_same (omega arith) Iff.rfl all.1)
