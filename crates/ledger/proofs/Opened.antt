@@ -37,6 +37,7 @@ module _ (m n : ℕ) (range : InRange m n) (rest : List ℕ) where
   -- Behind m and n the words of the ledger are 0.
   fresh_zero : (k : ℕ) → 2 ≤ k → k < ledger_long → get_or words k 0 ≡ 0
   unfolding fresh_ledger
+  fresh_zero zero low inside = absurd (omega arith)
   fresh_zero (suc zero) low inside = absurd (omega arith)
   fresh_zero (suc (suc k)) low inside = row_first 5344 zeros rest k (omega arith)
 

@@ -6,11 +6,6 @@ use borrow.Author.Rules.{rules}
 use Rattle.words.proofs.Changes.{changed_at}
 use Rattle.block.proofs.Headed.{headed, rests}
 use Rattle.block.proofs.rest.Goals as goal
-use Rattle.block.proofs.rest.Goals.{After-slice_known-2-1, Start}
-
--- Where the function starts, seen from its end.
-abbrev start : After-slice_known-2-1 → Start
-start c = c.before.before.before.before.before.before
 
 pub bounds-block-1 : goal.bounds-block-1
 bounds-block-1 c = simp length-set (omega arith)
@@ -26,4 +21,4 @@ shape_of-block c = c.clear.ensures.untouched.size ∙ simp length-set
 
 pub returns : goal.returns
 returns c = let placed = c.transaction_numbers-transaction.ensures in
-    rests (headed _ 0 (start c).args.block.now (start c).requires.size) (changed_at placed c.clear.ensures)
+    rests (headed _ 0 c.args.block.now c.requires.size) (changed_at placed c.clear.ensures)

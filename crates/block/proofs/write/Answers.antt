@@ -15,10 +15,8 @@ pub bounds-block-2-2 : goal.bounds-block-2-2
 bounds-block-2-2 c = simp length-set (omega arith)
 
 pub returns : goal.returns
-returns c = let copies = c.before.before in
-    let start = copies.before.before in
-    let before = start.requires.0 in
-    let holds = viewed_handler _ start.args.block.now before.words.size before.good in
-    handler_is _ _ _ (wrote_held holds before.opened start.requires.1
-    (stored_at (copies.copies.result + start.args.x) _ _ (omega arith) (omega arith)) c.with_cell.ensures
+returns c = let before = c.requires.0 in
+    let holds = viewed_handler _ c.args.block.now before.words.size before.good in
+    handler_is _ _ _ (wrote_held holds before.opened c.requires.1
+    (stored_at (c.copies.result + c.args.x) _ _ (omega arith) (omega arith)) c.with_cell.ensures
     (stored _ _ _ (simp length-set (omega arith))))

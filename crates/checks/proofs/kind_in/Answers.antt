@@ -28,4 +28,4 @@ returns-in-5 c = says_number c.in-5.is refl
 
 pub returns-in_default : goal.returns-in_default
 unfolding numbered
-returns-in_default c = let rest = c.in_default.rest in says_none rest.0.0.0.0.1 rest.0.0.0.1 rest.0.0.1 rest.0.1 rest.1
+returns-in_default c = let rest = c.in_default.in_default-own.rest in says_none rest.0.0.0.0.1 rest.0.0.0.1 rest.0.0.1 rest.0.1 rest.1

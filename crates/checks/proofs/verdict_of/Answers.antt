@@ -26,10 +26,8 @@ by_phase : (c : After-is_begin) {begins opened : Bool} → let args = c.args in
     c.is_begin.result ≡ begins → args.opened ≡ opened
     → phased begins opened ≡ first_hit (step_checks (asking true args.m args.n args.handler (kind_is args.kind) args.opened))
 by_phase c begins opened =
-    let past = c.before in
-    let second = past.before.before in
-    let placed = sym past.is_beyond.ensures ∙ past.if-is_beyond.false in
-    ap₂ phased (sym begins ∙ c.is_begin.ensures) (sym opened) ∙ stops_phased _ refl (known second.before) (inside second) placed
+    let placed = sym c.is_beyond.ensures ∙ c.if-is_beyond.false in
+    ap₂ phased (sym begins ∙ c.is_begin.ensures) (sym opened) ∙ stops_phased _ refl (known c.before.before.before.before) (inside c.before.before.before) placed
 
 -- What the checks say is all that is promised.
 says : {asked : Asked} {verdict : Option Refusal} → verdict ≡ first_hit (step_checks asked) → VerdictPromise asked verdict
@@ -39,20 +37,19 @@ pub returns-then-is_unknown : goal.returns-then-is_unknown
 returns-then-is_unknown c = says (stops_15 _ refl (sym c.is_unknown.ensures ∙ c.if-is_unknown.true))
 
 pub returns-then-n-handler : goal.returns-then-n-handler
-returns-then-n-handler c = says (stops_11 _ refl (known c.before) (omega arith))
+returns-then-n-handler c = says (stops_11 _ refl (known (goal.at.returns-then-n-handler c).Else-is_unknown) (omega arith))
 
 pub returns-then-is_beyond : goal.returns-then-is_beyond
-returns-then-is_beyond c = let second = c.before.before in
-    says (stops_12 _ refl (known second.before) (inside second) (sym c.is_beyond.ensures ∙ c.if-is_beyond.true))
+returns-then-is_beyond c = says (stops_12 _ refl (known (goal.at.returns-then-is_beyond c).Else-is_unknown) (inside (goal.at.returns-then-is_beyond c).Else-n-handler) (sym c.is_beyond.ensures ∙ c.if-is_beyond.true))
 
 pub returns-then-opened : goal.returns-then-opened
-returns-then-opened c = says (by_phase c.before.before c.if-is_begin.true c.if-opened.true)
+returns-then-opened c = says (by_phase (goal.at.returns-then-opened c).After-is_begin c.if-is_begin.true c.if-opened.true)
 
 pub returns-then-is_begin : goal.returns-then-is_begin
-returns-then-is_begin c = says (by_phase c.before.before c.if-is_begin.true c.if-opened.false)
+returns-then-is_begin c = says (by_phase (goal.at.returns-then-is_begin c).After-is_begin c.if-is_begin.true c.if-opened.false)
 
 pub returns-then-opened-2 : goal.returns-then-opened-2
-returns-then-opened-2 c = says (by_phase c.before.before c.if-is_begin.false c.if-opened-2.true)
+returns-then-opened-2 c = says (by_phase (goal.at.returns-then-opened-2 c).After-is_begin c.if-is_begin.false c.if-opened-2.true)
 
 pub returns : goal.returns
-returns c = says (by_phase c.before.before c.if-is_begin.false c.if-opened-2.false)
+returns c = says (by_phase (goal.at.returns c).After-is_begin c.if-is_begin.false c.if-opened-2.false)

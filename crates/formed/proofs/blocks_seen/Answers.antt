@@ -12,38 +12,26 @@ use Rattle.formed.proofs.Gathers.{Told, Gathered, told_none, told_more, told_bes
 use Rattle.formed.proofs.Walks.{Walked, walk_starts, row_there, row_inside, walk_goes, walk_ends}
 use Rattle.formed.proofs.Parts.{BlocksLaid, blocks_laid, behind_length, block_span}
 use Rattle.formed.proofs.blocks_seen.Goals as goal
-use Rattle.formed.proofs.blocks_seen.Goals.{After-block_at-block, After-body_words-end, In-loop-at, Start}
-
--- The function's start, seen from where the lengths are known.
-abbrev start : After-body_words-end → Start
-start c = c.before.before.before.before.before
-
--- Where the first block lies.
-abbrev block : After-body_words-end → After-block_at-block
-block c = c.before.before.before
+use Rattle.formed.proofs.blocks_seen.Goals.{After-body_words-end, In-loop-at}
 
 -- The lengths that the walk is made with.
-laid : (c : After-body_words-end) → let span = (block c).block_at-block.result in
-    BlocksLaid (start c).args.m (start c).args.n span.start (span.end - span.start) c.transaction_numbers-behind.result c.body_words-end.result
+laid : (c : After-body_words-end) → let span = c.block_at-block.result in
+    BlocksLaid c.args.m c.args.n span.start (span.end - span.start) c.transaction_numbers-behind.result c.body_words-end.result
 laid c =
-    blocks_laid ((start c).requires.0, (start c).requires.1) (block c).block_at-block.ensures c.transaction_numbers-behind.ensures c.body_words-end.ensures
-
--- Where the lengths are known, seen from a turn.
-abbrev known : In-loop-at → After-body_words-end
-known c = c.before.before
+    blocks_laid (c.requires.0, c.requires.1) c.block_at-block.ensures c.transaction_numbers-behind.ensures c.body_words-end.ensures
 
 -- The block at hand ends where the words do or before.
-ends : (c : In-loop-at) → let args = (start (known c)).args in c.loop-at.at + handler_long args.m ≤ length args.body.now
-ends c = omega (arith, row_inside c.loop-at.invariant (omega (arith, (laid (known c)).whole)), (start (known c)).requires.2)
+ends : (c : In-loop-at) → let args = c.args in c.loop-at.at + handler_long args.m ≤ length args.body.now
+ends c = omega (arith, row_inside c.loop-at.invariant (omega (arith, (blocks_laid (c.requires.0, c.requires.1) c.block_at-block.ensures c.transaction_numbers-behind.ensures c.body_words-end.ensures).whole)), c.requires.2)
 
 -- There is a block at hand.
-here : (c : In-loop-at) → c.loop-at.invariant.row < (start (known c)).args.n
-here c = row_there c.loop-at.invariant (omega (arith, (laid (known c)).whole))
+here : (c : In-loop-at) → c.loop-at.invariant.row < c.args.n
+here c = row_there c.loop-at.invariant (omega (arith, (blocks_laid (c.requires.0, c.requires.1) c.block_at-block.ensures c.transaction_numbers-behind.ensures c.body_words-end.ensures).whole))
 
 -- Where it lies.
-spans : (c : In-loop-at) → let at = c.loop-at.at in let span = (block (known c)).block_at-block.result in
-    let m = (start (known c)).args.m in Spans (handler_start m c.loop-at.invariant.row) (handler_long m) at (at + (span.end - span.start))
-spans c = omega (arith, c.loop-at.invariant.place, (laid (known c)).row)
+spans : (c : In-loop-at) → let at = c.loop-at.at in let span = c.block_at-block.result in
+    let m = c.args.m in Spans (handler_start m c.loop-at.invariant.row) (handler_long m) at (at + (span.end - span.start))
+spans c = omega (arith, c.loop-at.invariant.place, (blocks_laid (c.requires.0, c.requires.1) c.block_at-block.ensures c.transaction_numbers-behind.ensures c.body_words-end.ensures).row)
 
 pub block_at-block-requires : goal.block_at-block-requires
 block_at-block-requires c = (omega arith, omega arith)
@@ -58,61 +46,57 @@ pub body_words-end-requires : goal.body_words-end-requires
 body_words-end-requires c = (omega arith, omega arith)
 
 pub loop-at-init : goal.loop-at-init
-loop-at-init c = walk_starts (laid c).first (told_none _ _ (λ y h. absurd (omega arith)), gathered_none front_most _)
+loop-at-init c = walk_starts (laid (goal.at.loop-at-init c).After-body_words-end).first (told_none _ _ (λ y h. absurd (omega arith)), gathered_none front_most _)
 
 pub overflow_add-next : goal.overflow_add-next
-overflow_add-next c = omega (arith, laid (known c))
+overflow_add-next c = omega (arith, laid (goal.at.overflow_add-next c).After-body_words-end)
 
 pub offset_bounds-body-ahead : goal.offset_bounds-body-ahead
-offset_bounds-body-ahead c = omega (arith, laid (known c))
+offset_bounds-body-ahead c = omega (arith, laid (goal.at.offset_bounds-body-ahead c).After-body_words-end)
 
 pub slice_bounds-span_bits-count : goal.slice_bounds-span_bits-count
-slice_bounds-span_bits-count c = omega (arith, (laid (known c)).front, ends c)
+slice_bounds-span_bits-count c = omega (arith, (laid (goal.at.slice_bounds-span_bits-count c).After-body_words-end).front, ends (goal.at.slice_bounds-span_bits-count c).In-loop-at)
 
 pub slice_bounds-span_bits-start : goal.slice_bounds-span_bits-start
-slice_bounds-span_bits-start c = omega (arith, (laid (known c)).front, ends c)
+slice_bounds-span_bits-start c = omega (arith, (laid (goal.at.slice_bounds-span_bits-start c).After-body_words-end).front, ends (goal.at.slice_bounds-span_bits-start c).In-loop-at)
 
 pub slice_bounds-span_bits-end : goal.slice_bounds-span_bits-end
-slice_bounds-span_bits-end c = omega (arith, (laid (known c)).front, ends c)
+slice_bounds-span_bits-end c = omega (arith, (laid (goal.at.slice_bounds-span_bits-end c).After-body_words-end).front, ends (goal.at.slice_bounds-span_bits-end c).In-loop-at)
 
 pub overflow_add-at : goal.overflow_add-at
-overflow_add-at c = omega (arith, laid (known c.before))
+overflow_add-at c = omega (arith, laid (goal.at.overflow_add-at c).After-body_words-end)
 
 pub overflow_add-at-in-loop-at : goal.overflow_add-at-in-loop-at
-overflow_add-at-in-loop-at c = omega (arith, laid (known c.before))
+overflow_add-at-in-loop-at c = omega (arith, laid (goal.at.overflow_add-at-in-loop-at c).After-body_words-end)
 
 pub span_bits-bits-requires : goal.span_bits-bits-requires
-span_bits-bits-requires c = let turn = c.before in
-    let fewer = behind_length ((known turn).transaction_numbers-behind.result - 3) (start (known turn)).args.body.now in
-    omega (arith, (laid (known turn)).front, ends turn, fewer)
+span_bits-bits-requires c = let fewer = behind_length (c.transaction_numbers-behind.result - 3) c.args.body.now in
+    omega (arith, (laid (goal.at.span_bits-bits-requires c).After-body_words-end).front, ends (goal.at.span_bits-bits-requires c).In-loop-at, fewer)
 
 pub offset_bounds-body-at : goal.offset_bounds-body-at
-offset_bounds-body-at c = omega (arith, laid (known c.before.before))
+offset_bounds-body-at c = omega (arith, laid (goal.at.offset_bounds-body-at c).After-body_words-end)
 
 pub slice_bounds-front_faults-end : goal.slice_bounds-front_faults-end
-slice_bounds-front_faults-end c = omega (arith, (laid (known c.before.before)).row, ends c.before.before)
+slice_bounds-front_faults-end c = omega (arith, (laid (goal.at.slice_bounds-front_faults-end c).After-body_words-end).row, ends (goal.at.slice_bounds-front_faults-end c).In-loop-at)
 
 pub front_faults-faults-requires : goal.front_faults-faults-requires
-front_faults-faults-requires c = let turn = c.before.before.before in
-    (lent_length (spans turn) _ (omega (arith, turn.loop-at.invariant.place, ends turn)), omega arith)
+front_faults-faults-requires c = (lent_length (spans (goal.at.front_faults-faults-requires c).In-loop-at) _ (omega (arith, c.loop-at.invariant.place, ends (goal.at.front_faults-faults-requires c).In-loop-at)), omega arith)
 
 pub overflow_add-faults : goal.overflow_add-faults
-overflow_add-faults c = let turn = c.before.before.before.before in
-    omega (arith, c.front_faults-faults.ensures.small, turn.loop-at.invariant.known.1.small, here turn)
+overflow_add-faults c = omega (arith, c.front_faults-faults.ensures.small, c.loop-at.invariant.known.1.small, here (goal.at.overflow_add-faults c).In-loop-at)
 
 pub loop-at-smaller : goal.loop-at-smaller
-loop-at-smaller c = omega (arith, (laid (known c.before.before.before.before)).row)
+loop-at-smaller c = omega (arith, (laid (goal.at.loop-at-smaller c).After-body_words-end).row)
 
 pub loop-at-preserved : goal.loop-at-preserved
-loop-at-preserved c = let turn = c.before.before.before.before in
-    let walked = turn.loop-at.invariant in
-    let blocks = laid (known turn) in
-    let body = (start (known turn)).args.body.now in
+loop-at-preserved c = let walked = c.loop-at.invariant in
+    let blocks = laid (goal.at.loop-at-preserved c).After-body_words-end in
+    let body = c.args.body.now in
     let numbers = block_span _ body walked.row (omega (arith, walked.place)) (omega (arith, blocks.front)) (omega (arith, blocks.front)) in
-    let front = rw (lent_part (spans turn) body) at c.front_faults-faults.ensures in
-    walk_goes walked (omega (arith, blocks.row)) (here turn)
+    let front = rw (lent_part (spans (goal.at.loop-at-preserved c).In-loop-at) body) at c.front_faults-faults.ensures in
+    walk_goes walked (omega (arith, blocks.row)) (here (goal.at.loop-at-preserved c).In-loop-at)
     (told_more _ _ walked.known.0 c.span_bits-bits.ensures numbers, gathered_more front_most _ (faults_both walked.known.1 front))
 
 pub returns : goal.returns
-returns c = let all = walk_ends c.loop-at.invariant (omega arith) (omega (arith, (laid c.before.before).whole)) in
+returns c = let all = walk_ends c.loop-at.invariant (omega arith) (omega (arith, (laid (goal.at.returns c).After-body_words-end).whole)) in
     (told_besides (omega arith) all.0, faults_same (omega arith) Iff.rfl all.1)

@@ -6,25 +6,17 @@ use Rattle.formed.proofs.Gathers.{Told, told_none, told_more}
 use Rattle.formed.proofs.Walks.{Walked, walk_starts, row_there, row_inside, walk_goes, walk_ends}
 use Rattle.formed.proofs.Parts.{PairFits, CellsLaid, cells_laid, behind_length, cell_span, cells_told}
 use Rattle.formed.proofs.cells_bits.Goals as goal
-use Rattle.formed.proofs.cells_bits.Goals.{After-block_at-block, After-struct_known-in-loop-at-1, Start}
-
--- The function's start, seen from where the lengths are known.
-abbrev start : After-block_at-block → Start
-start c = c.before.before.before.before
+use Rattle.formed.proofs.cells_bits.Goals.{After-block_at-block, In-loop-at}
 
 -- The lengths that the walk is made with.
 laid : (c : After-block_at-block) → let ahead = c.cell_at-middle.result.start in
-    CellsLaid (start c).args.m c.cell_at-cell.result.end ahead (c.block_at-block.result.start - ahead)
-laid c = cells_laid (start c).requires.0 c.cell_at-cell.ensures c.cell_at-middle.ensures c.block_at-block.ensures
-
--- Where the lengths are known, and the walk, seen from a turn.
-abbrev known : After-struct_known-in-loop-at-1 → After-block_at-block
-known c = c.before.before.before.before
+    CellsLaid c.args.m c.cell_at-cell.result.end ahead (c.block_at-block.result.start - ahead)
+laid c = cells_laid c.requires.0 c.cell_at-cell.ensures c.cell_at-middle.ensures c.block_at-block.ensures
 
 -- The cell at hand ends where the walk does or before.
-ends : (c : After-struct_known-in-loop-at-1) → let m = (start (known c)).args.m in
+ends : (c : In-loop-at) → let m = c.args.m in
     c.loop-at.at + cell_long m ≤ cell_start m (m - m / 2)
-ends c = omega (arith, row_inside c.loop-at.invariant (omega (arith, (laid (known c)).rest)))
+ends c = omega (arith, row_inside c.loop-at.invariant (omega (arith, (cells_laid c.requires.0 c.cell_at-cell.ensures c.cell_at-middle.ensures c.block_at-block.ensures).rest)))
 
 pub cell_at-cell-requires : goal.cell_at-cell-requires
 cell_at-cell-requires c = (omega arith, omega arith)
@@ -36,45 +28,43 @@ pub block_at-block-requires : goal.block_at-block-requires
 block_at-block-requires c = (omega arith, omega arith)
 
 pub overflow_sub-end : goal.overflow_sub-end
-overflow_sub-end c = omega (arith, laid c.before)
+overflow_sub-end c = omega (arith, laid (goal.at.overflow_sub-end c).After-block_at-block)
 
 pub loop-at-init : goal.loop-at-init
 loop-at-init c = walk_starts (omega (arith, c.cell_at-cell.ensures.starts)) (told_none _ _ (λ y h. absurd (omega arith)))
 
 pub overflow_add-next : goal.overflow_add-next
-overflow_add-next c = omega (arith, laid (known c))
+overflow_add-next c = omega (arith, laid (goal.at.overflow_add-next c).After-block_at-block)
 
 pub offset_bounds-body-ahead : goal.offset_bounds-body-ahead
-offset_bounds-body-ahead c = omega (arith, laid (known c))
+offset_bounds-body-ahead c = omega (arith, laid (goal.at.offset_bounds-body-ahead c).After-block_at-block)
 
 pub slice_bounds-span_bits-count : goal.slice_bounds-span_bits-count
-slice_bounds-span_bits-count c = omega (arith, laid (known c))
+slice_bounds-span_bits-count c = omega (arith, laid (goal.at.slice_bounds-span_bits-count c).After-block_at-block)
 
 pub slice_bounds-span_bits-start : goal.slice_bounds-span_bits-start
-slice_bounds-span_bits-start c = omega (arith, laid (known c))
+slice_bounds-span_bits-start c = omega (arith, laid (goal.at.slice_bounds-span_bits-start c).After-block_at-block)
 
 pub slice_bounds-span_bits-end : goal.slice_bounds-span_bits-end
-slice_bounds-span_bits-end c = omega (arith, laid (known c))
+slice_bounds-span_bits-end c = omega (arith, laid (goal.at.slice_bounds-span_bits-end c).After-block_at-block)
 
 pub overflow_add-at : goal.overflow_add-at
-overflow_add-at c = omega (arith, laid (known c.before))
+overflow_add-at c = omega (arith, laid (goal.at.overflow_add-at c).After-block_at-block)
 
 pub span_bits-over-requires : goal.span_bits-over-requires
-span_bits-over-requires c = let turn = c.before in
-    let fewer = behind_length (known turn).cell_at-middle.result.start (start (known turn)).args.body.now in
-    omega (arith, laid (known turn), ends turn, fewer)
+span_bits-over-requires c = let fewer = behind_length c.cell_at-middle.result.start c.args.body.now in
+    omega (arith, laid (goal.at.span_bits-over-requires c).After-block_at-block, ends (goal.at.span_bits-over-requires c).In-loop-at, fewer)
 
 pub loop-at-smaller : goal.loop-at-smaller
-loop-at-smaller c = omega (arith, laid (known c.before.before))
+loop-at-smaller c = omega (arith, laid (goal.at.loop-at-smaller c).After-block_at-block)
 
 pub loop-at-preserved : goal.loop-at-preserved
-loop-at-preserved c = let turn = c.before.before in
-    let walked = turn.loop-at.invariant in
-    let cells = laid (known turn) in
+loop-at-preserved c = let walked = c.loop-at.invariant in
+    let cells = laid (goal.at.loop-at-preserved c).After-block_at-block in
     walk_goes walked (omega (arith, cells.row)) (row_there walked (omega (arith, cells.rest)))
     (told_more _ _ walked.known c.span_bits-over.ensures
-    (cell_span _ (start (known turn)).args.body.now walked.row (omega (arith, walked.place)) cells.half (omega (arith, cells.row))))
+    (cell_span _ c.args.body.now walked.row (omega (arith, walked.place)) cells.half (omega (arith, cells.row))))
 
 pub returns : goal.returns
-returns c = cells_told _ (start c.before.before.before).args.body.now
-    (walk_ends c.loop-at.invariant (omega arith) (omega (arith, (laid c.before.before.before).rest)))
+returns c = cells_told _ c.args.body.now
+    (walk_ends c.loop-at.invariant (omega arith) (omega (arith, (laid (goal.at.returns c).After-block_at-block).rest)))

@@ -8,8 +8,7 @@ use Rattle.formed.proofs.front_faults.Goals as goal
 -- The faults that are summed are those of the front.
 pub returns : goal.returns
 returns c =
-    let phase = c.before.before in
-    front_sum _ _ phase.args.block.now (λ place. (c.shared_slice_known-4-1.given place).fits) phase.word_fault-phase.ensures
+    front_sum _ _ c.args.block.now (λ place. (c.shared_slice_known-4-1.given place).fits) c.word_fault-phase.ensures
 
 pub overflow_cast-sets : goal.overflow_cast-sets
 overflow_cast-sets c = Fits-32_64 (Fits-or (c.shared_slice_known-3-1.given _) (c.shared_slice_known-4-1.given _))

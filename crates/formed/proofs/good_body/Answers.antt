@@ -8,6 +8,5 @@ pub returns-then-body-need : goal.returns-then-body-need
 returns-then-body-need c = too_short _ _ _ _ (omega arith)
 
 pub returns : goal.returns
-returns c = let cells = c.before.before in
-    let blocks = cells.blocks_seen-blocks.ensures in
-    no_fault _ _ _ _ (omega arith) blocks.0 cells.cells_bits.ensures blocks.1 c.word_fault-numbers.ensures
+returns c = let blocks = c.blocks_seen-blocks.ensures in
+    no_fault _ _ _ _ (omega arith) blocks.0 c.cells_bits.ensures blocks.1 c.word_fault-numbers.ensures
