@@ -13,7 +13,7 @@ unfolding entry_in
 returns c =
     let found = c.before.before in
     let args = found.before.before.args in
-    c.has.ensures ∙ ap (λ (place : ℕ). has_bit (get_or args.words.now place 0) args.c) found.written_at_lem.ensures
+    c.has.ensures ∙ ap (λ (place : ℕ). has_bit (get_or args.words.now place 0) args.c) found.written_at.ensures
 
 pub wrote_spec : {M : Type 1} → statement M
 wrote_spec =

@@ -1,4 +1,4 @@
--- `steps::single::first_read_lem` meets its contract: the test, and then the block is put to rest, or the numbers are copied out and the cell joins.
+-- `steps::single::first_read` meets its contract: the test, and then the block is put to rest, or the numbers are copied out and the cell joins.
 use Prim.Native.Nat.{◌+◌, ◌≤◌}
 use mathlib.Core.Path.{◌≡◌, sym, ap, ◌∙◌}
 use native.Mathlib.Omega.{arith}
