@@ -26,17 +26,14 @@ pub returns-in-Cell : goal.returns-in-Cell
 returns-in-Cell c v = takes_torn c.requires (asked (goal.at.returns-in-Cell c).After-has_copy ∙ c.if-has_copy.false) _ (torn (goal.at.returns-in-Cell c).After-torn_cell ∙ ap found_is c.in-Cell.is) v
     c.handler_row-row.ensures c.empty_row.ensures
 
-pub note_read-requires : goal.note_read-requires
-note_read-requires c = 
-    let pre = c.requires in record {
-      row_lt_ledger_rows = (
-        omega (arith, pre.handler, pre.ledger.range.handlers),
-        omega (arith, pre.ledger.long),
-        omega (arith, pre.cell, pre.ledger.range.cells),
-        omega (arith, c.writer_of-place.ensures.within, pre.ledger.few),
-      );
-      row_bound = (c.type_inv.words _).fits;
-    }
+pub note_read-requires-clause-row_lt_ledger_rows : goal.note_read-requires-clause-row_lt_ledger_rows
+note_read-requires-clause-row_lt_ledger_rows c =
+    let pre = c.requires in (
+      omega (arith, pre.handler, pre.ledger.range.handlers),
+      omega (arith, pre.ledger.long),
+      omega (arith, pre.cell, pre.ledger.range.cells),
+      omega (arith, c.writer_of-place.ensures.within, pre.ledger.few),
+    )
 
 pub returns : goal.returns
 returns c v = takes_first c.requires (asked (goal.at.returns c).After-has_copy ∙ c.if-has_copy.false) (torn (goal.at.returns c).After-torn_cell ∙ ap found_is c.in_default.is) v _ _ _
