@@ -1,13 +1,10 @@
 -- `answers::present_version` meets its contract: of the commits passed, the last that wrote the cell is its writer, and each that
 -- wrote it is counted.
-use Prim.Native.Nat.{ℕ, ◌+◌, ◌-◌, ◌≤◌, ◌<◌}
-use native.Mathlib.Omega.{arith}
-use mathlib.Core.Path.{◌≡◌, sym, ap, ◌∙◌}
-use mathlib.Core.Logic.{⊎_elim}
+use Prim.Native.Nat.{ℕ, ◌≤◌, ◌<◌}
+use mathlib.Core.Path.{◌≡◌}
 use Rattle.rules.specs.history.History as History
 use Rattle.rules.specs.demand.Judge.{version_count}
 use Rattle.ledger.specs.Histories.{commits_in}
-use Rattle.ledger.proofs.Versions.{writer_none, writer_wrote, writer_kept, versions_none, versions_wrote, versions_kept}
 use Rattle.answers.proofs.present_version.Given as goal
 
 abbrev pub invariant-loop-earlier : goal.invariant-loop-earlier

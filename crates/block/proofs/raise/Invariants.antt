@@ -1,12 +1,7 @@
 -- `block::raise` meets its contract: the numbers passed are raised, each from what it was, since none was changed before its turn.
-use Prim.Native.Nat.{◌+◌, ◌≤◌, ◌<◌, ◌-◌, max}
-use mathlib.Core.Path.{◌≡◌, refl, ap, ap₂, ◌∙◌}
-use native.Mathlib.Omega.{arith}
-use lib.ListN.{get_or}
-use borrow.Author.Rules.{rules}
+use Prim.Native.Nat.{◌≤◌, max}
 use Rattle.layout.specs.Places.{transaction_number_in}
 use Rattle.words.specs.Rows.{Changed}
-use Rattle.words.proofs.Changes.{changed_none, changed_more, changed_all, changed_at}
 use Rattle.block.specs.Blocks.{row_table}
 use Rattle.block.proofs.raise.Given as goal
 

@@ -4,7 +4,6 @@ use mathlib.Core.Path.{◌≡◌, refl, sym, ap₂, ◌∙◌}
 use mathlib.Core.Bool.{Bool, true, false}
 use mathlib.Core.Option.{Option}
 use native.Mathlib.Omega.{arith}
-use borrow.Author.Rules.{rules}
 use Rattle.rules.specs.steps.Replies.{Refusal}
 use Rattle.rules.specs.steps.Checks.{Asked, asking, first_hit, step_checks, is_unknown}
 use Rattle.checks.specs.Meaning.{kind_is}

@@ -4,12 +4,12 @@ use Prim.Native.Nat.{◌+◌, ◌-◌, ◌≤◌, ◌<◌}
 use mathlib.Core.Logic.Iff
 use native.Mathlib.Omega.{arith}
 use lib.ListN.{length}
-use Rattle.layout.specs.Places.{cell_start, handler_start, handler_long, handler_part}
+use Rattle.layout.specs.Places.{handler_start, handler_long}
 use Rattle.places.specs.Spans.{Spans}
 use Rattle.places.proofs.Lent.{lent_part, lent_length}
-use Rattle.formed.specs.Faults.{NumbersFit, GoodFront, front_most}
-use Rattle.formed.proofs.Gathers.{Told, Gathered, told_none, told_more, told_besides, gathered_none, gathered_more, faults_both, faults_same}
-use Rattle.formed.proofs.Walks.{Walked, walk_starts, row_there, row_inside, walk_goes, walk_ends}
+use Rattle.formed.specs.Faults.{front_most}
+use Rattle.formed.proofs.Gathers.{told_none, told_more, told_besides, gathered_none, gathered_more, faults_both, faults_same}
+use Rattle.formed.proofs.Walks.{walk_starts, row_there, row_inside, walk_goes, walk_ends}
 use Rattle.formed.proofs.Parts.{BlocksLaid, blocks_laid, behind_length, block_span}
 use Rattle.formed.proofs.blocks_seen.Goals as goal
 use Rattle.formed.proofs.blocks_seen.Goals.{After-body_words-end, In-loop-at}

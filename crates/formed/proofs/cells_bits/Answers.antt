@@ -2,9 +2,9 @@
 use Prim.Native.Nat.{◌+◌, ◌-◌, ◌/◌, ◌≤◌}
 use native.Mathlib.Omega.{arith}
 use Rattle.layout.specs.Places.{cell_long, cell_start}
-use Rattle.formed.proofs.Gathers.{Told, told_none, told_more}
-use Rattle.formed.proofs.Walks.{Walked, walk_starts, row_there, row_inside, walk_goes, walk_ends}
-use Rattle.formed.proofs.Parts.{PairFits, CellsLaid, cells_laid, behind_length, cell_span, cells_told}
+use Rattle.formed.proofs.Gathers.{told_none, told_more}
+use Rattle.formed.proofs.Walks.{walk_starts, row_there, row_inside, walk_goes, walk_ends}
+use Rattle.formed.proofs.Parts.{CellsLaid, cells_laid, behind_length, cell_span, cells_told}
 use Rattle.formed.proofs.cells_bits.Goals as goal
 use Rattle.formed.proofs.cells_bits.Goals.{After-block_at-block, In-loop-at}
 

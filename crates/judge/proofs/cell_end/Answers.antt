@@ -1,8 +1,6 @@
 -- `judge::cell_end` meets its promise: what the cell's present version shows, and how many commits wrote it.
 use mathlib.Core.Path.{sym, ◌∙◌}
 use native.Mathlib.Omega.{arith}
-use borrow.Author.Rules.{rules}
-use borrow.Author.Tests.{not-true, not-false}
 use Rattle.ledger.specs.Entries.{Ledger}
 use Rattle.ledger.proofs.Tested.{tested}
 use Rattle.judge.proofs.Ends.{no_end, end_beyond, end_shown}

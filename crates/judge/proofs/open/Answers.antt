@@ -3,8 +3,6 @@ use mathlib.Core.Path.{◌≡◌, sym, ◌∙◌}
 use mathlib.Core.Bool.{true}
 use native.Mathlib.Omega.{arith}
 use lib.ListN.{length-set}
-use borrow.Author.Rules.{rules}
-use borrow.Author.Tests.{not-true, not-false}
 use Rattle.rules.specs.steps.Given.{wrong_counts, wrong_length}
 use Rattle.rules.specs.steps.Replies.{out_of_range, too_short}
 use Rattle.rules.specs.steps.Checks.{in_range}

@@ -2,8 +2,6 @@
 use mathlib.Core.Path.{◌≡◌, sym, ap, ◌∙◌}
 use mathlib.Core.Option.{none}
 use native.Mathlib.Omega.{arith}
-use borrow.Author.Rules.{rules}
-use borrow.Author.Tests.{not-true, not-false}
 use Rattle.checks.specs.Meaning.{verdict_is}
 use Rattle.ledger.specs.Entries.{Ledger}
 use Rattle.ledger.proofs.Tested.{tested}

@@ -1,11 +1,8 @@
 -- `manual::put_codes` meets its promise: behind the heading, code by code, each row is put.
-use Prim.Native.Nat.{◌+◌, ◌*◌, ◌-◌, ◌≤◌}
-use mathlib.Core.Path.{◌≡◌, ◌∙◌}
-use native.Mathlib.Omega.{arith}
+use Prim.Native.Nat.{◌+◌, ◌*◌, ◌≤◌}
 use Rattle.rules.specs.steps.Codes.{plain_sheet}
 use Rattle.text.specs.Bytes.{in_turn}
 use Rattle.text.specs.Lies.{Puts}
-use Rattle.text.proofs.Puts.{puts_both, in_turn_none, in_turn_more, puts_whole}
 use Rattle.manual.specs.Page.{row_text, head_bytes, row_bytes}
 use Rattle.manual.proofs.put_codes.Given as goal
 

@@ -1,5 +1,4 @@
 -- `manual::put_head` meets its contract: line behind line, the heading is put.
-use borrow.Author.Rules.{rules}
 use Rattle.text.specs.Bytes.{written}
 use Rattle.text.proofs.Puts.{puts_both}
 use Rattle.manual.specs.Page.{head_text}

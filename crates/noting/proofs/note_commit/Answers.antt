@@ -2,7 +2,6 @@
 use native.Mathlib.Omega.{arith}
 use mathlib.Core.Path.{◌≡◌, ◌∙◌}
 use lib.ListN.{length, length-set}
-use borrow.Author.Rules.{rules}
 use Rattle.noting.proofs.Stores.{with_length, commit_stored}
 use Rattle.noting.proofs.note_commit.Goals as goal
 use Rattle.noting.proofs.note_commit.Goals.{After-copy_row}

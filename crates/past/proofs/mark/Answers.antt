@@ -2,7 +2,6 @@
 use Prim.Native.Nat.{◌-◌}
 use mathlib.Core.Path.{◌≡◌, sym, ◌∙◌}
 use native.Mathlib.Omega.{arith}
-use borrow.Author.Rules.{rules}
 use Rattle.layout.specs.Bits.{has_bit, with_bit}
 use Rattle.layout.proofs.Bits.{with_there, with_shifted, shifted_fits}
 use Rattle.past.specs.Marks.{only, Adds}

@@ -4,8 +4,6 @@ use mathlib.Core.Path.{◌≡◌, sym, ◌∙◌}
 use mathlib.Core.Bool.{true}
 use native.Mathlib.Omega.{arith}
 use lib.ListN.{length}
-use borrow.Author.Rules.{rules}
-use borrow.Author.Tests.{not-true, not-false}
 use Rattle.layout.specs.Places.{cells_of, handlers_of, cell_start, cell_long}
 use Rattle.layout.specs.WellFormed.{is_well_formed}
 use Rattle.layout.proofs.Tested.{tested}

@@ -6,8 +6,6 @@ use mathlib.Core.List.{◌∷◌}
 use native.Mathlib.Omega.{arith}
 use lib.ListN.{length, set, length-set, length-drop}
 use borrow.Rule.Slice.PartMut.{put_mid}
-use borrow.Author.Rules.{rules}
-use borrow.Author.Tests.{not-true, not-false}
 use Rattle.rules.specs.steps.Replies.{ready}
 use Rattle.rules.specs.steps.Register.{zeros}
 use Rattle.rules.specs.steps.Checks.{in_range}

@@ -4,8 +4,6 @@ use mathlib.Core.Bool.{true}
 use mathlib.Core.Option.{some}
 use Prim.Native.Nat.{◌+◌}
 use native.Mathlib.Omega.{arith}
-use borrow.Author.Rules.{rules}
-use borrow.Author.Tests.{not-true, not-false}
 use Rattle.rules.specs.steps.Checks.{in_range}
 use Rattle.layout.proofs.Places.{body_small}
 use Rattle.rules.proofs.steps.Given.{range_tested}

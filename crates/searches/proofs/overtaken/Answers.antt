@@ -1,14 +1,9 @@
 -- `searches::overtaken` meets its contract: each cell that was passed has as its own number the one that is held.
-use Prim.Native.Nat.{ℕ, ◌+◌}
 use mathlib.Core.Path.{ap}
-use mathlib.Core.Bool.{Bool, not}
-use mathlib.Core.List.{List}
+use mathlib.Core.Bool.{not}
 use native.Mathlib.Omega.{arith}
-use lib.Dec.{eqb}
-use lib.ListN.{get_or}
 use borrow.Author.Tests.{eq-eqb, ne_eqb}
-use Rattle.layout.specs.Places.{own_at}
-use Rattle.searches.proofs.Cells.{Searched, Looked, search_begins, search_misses, cell_inside, own_inside, search_finds, search_goes}
+use Rattle.searches.proofs.Cells.{Looked, search_begins, search_misses, cell_inside, own_inside, search_finds, search_goes}
 use Rattle.searches.proofs.overtaken.Invariants.{asked}
 use Rattle.searches.proofs.overtaken.Goals as goal
 use Rattle.searches.proofs.overtaken.Goals.{After-lowest-z}

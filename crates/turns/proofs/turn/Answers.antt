@@ -3,7 +3,6 @@ use mathlib.Core.Path.{◌≡◌, sym, ap, ◌∙◌}
 use mathlib.Core.Bool.{true}
 use mathlib.Core.Option.{none}
 use native.Mathlib.Omega.{arith}
-use borrow.Author.Rules.{rules}
 use Rattle.rules.specs.steps.Checks.{asking, first_hit, step_checks}
 use Rattle.rules.specs.steps.Register.{has_open}
 use Rattle.layout.specs.View.{view}

@@ -1,6 +1,5 @@
 -- `judge::taking::attempt` meets its contract: a stale read ends the transaction, and without one it commits.
 use mathlib.Core.Path.{◌≡◌, ap, ◌∙◌}
-use borrow.Author.Rules.{rules}
 use Rattle.words.specs.Sets.{found_is}
 use Rattle.judge.proofs.Answers.{stale_cell, stale_told, takes_overtaken, takes_commit, commit_room}
 use Rattle.judge.proofs.taking.attempt.Goals as goal

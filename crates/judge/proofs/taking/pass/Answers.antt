@@ -1,7 +1,6 @@
 -- `judge::taking::pass` meets its contract: one commit too many is refused, and everything else is taken and reported.
 use mathlib.Core.Path.{◌≡◌, sym, ◌∙◌}
 use native.Mathlib.Omega.{arith}
-use borrow.Author.Rules.{rules}
 use Rattle.rules.specs.steps.Codes.{Step, known}
 use Rattle.checks.specs.Meaning.{kind_is}
 use Rattle.judge.proofs.Tests.{too_many}

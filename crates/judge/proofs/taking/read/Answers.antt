@@ -1,7 +1,6 @@
 -- `judge::taking::read` meets its contract: what the copy shows, or abort 1, or what the present version shows, which is noted.
 use mathlib.Core.Path.{◌≡◌, ap, ◌∙◌}
 use native.Mathlib.Omega.{arith}
-use borrow.Author.Rules.{rules}
 use Rattle.words.specs.Sets.{found_is}
 use Rattle.judge.proofs.Answers.{touched, torn_by, touched_told, torn_told, takes_again, takes_torn, takes_first}
 use Rattle.judge.proofs.taking.read.Goals as goal

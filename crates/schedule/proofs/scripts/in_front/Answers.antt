@@ -1,9 +1,6 @@
 -- `schedule::scripts::in_front` meets its contract: used up, no step, a step with no value, or a write.
-use Prim.Native.Nat.{ℕ}
 use mathlib.Core.Path.{◌≡◌, ap, ◌∙◌}
-use mathlib.Core.List.{List}
 use native.Mathlib.Omega.{arith}
-use borrow.Author.Rules.{rules}
 use Rattle.rules.specs.steps.Codes.{plain_sheet}
 use Rattle.schedule.specs.Bytes.{byte_at}
 use Rattle.schedule.specs.Fronts.{step_bytes}

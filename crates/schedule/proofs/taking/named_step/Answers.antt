@@ -3,7 +3,6 @@ use Prim.Native.Nat.{◌+◌, ◌≤◌, ◌<◌}
 use mathlib.Core.Path.{refl, subst}
 use native.Mathlib.Omega.{arith}
 use lib.ListN.{length, drop, length-drop}
-use borrow.Author.Rules.{rules}
 use Rattle.schedule.specs.Sound.{handlers_in, table_start, script_in}
 use Rattle.schedule.specs.Fronts.{StepInFront, FrontOf}
 use Rattle.schedule.specs.declared.scripts.Front.TheVariants.{Refuses}

@@ -3,7 +3,6 @@ use Prim.Native.Nat.{◌+◌, ◌≤◌}
 use mathlib.Core.Path.{◌≡◌, sym, ap, ◌∙◌}
 use native.Mathlib.Omega.{arith}
 use lib.ListN.{length}
-use borrow.Author.Rules.{rules}
 use Rattle.rules.specs.steps.Figure.{torn_cell}
 use Rattle.layout.specs.Places.{cell_long, handler_long, transaction_from}
 use Rattle.layout.specs.View.{word_setting, view}
@@ -98,7 +97,7 @@ slice_bounds-join-end c = omega (arith, lies (goal.at.slice_bounds-join-end c).A
 
 pub join-requires : goal.join-requires
 join-requires c = let ready = c.requires.ready in (
-      block_open ready.seated c.block_at-span.ensures ready.phase,
-      ready.cell,
-      row_small c.requires c.cell_at-cell.ensures.starts c.block_at-span.ensures c.copy_out-row.ensures,
-    )
+  block_open ready.seated c.block_at-span.ensures ready.phase,
+  ready.cell,
+  row_small c.requires c.cell_at-cell.ensures.starts c.block_at-span.ensures c.copy_out-row.ensures,
+)

@@ -3,7 +3,6 @@ use Prim.Native.Nat.{◌+◌, ◌≤◌}
 use mathlib.Core.Path.{◌≡◌, sym, ◌∙◌}
 use native.Mathlib.Omega.{arith}
 use lib.ListN.{length}
-use borrow.Author.Rules.{rules}
 use Rattle.layout.specs.Places.{handler_long}
 use Rattle.layout.specs.View.{view}
 use Rattle.steps.proofs.Lent.{block_lies}
@@ -95,10 +94,10 @@ bounds-body-copies-then-has-2 c = omega (arith, lies (goal.at.bounds-body-copies
 
 pub first_read-requires : goal.first_read-requires
 first_read-requires c = record {
-      ready = c.requires;
-      unread = sym (read_told (goal.at.first_read-requires c).After-has-2) ∙ c.if-has-2.false;
-      unwritten = sym (written_told (goal.at.first_read-requires c).After-has) ∙ c.if-has.false;
-    }
+  ready = c.requires;
+  unread = sym (read_told (goal.at.first_read-requires c).After-has-2) ∙ c.if-has-2.false;
+  unwritten = sym (written_told (goal.at.first_read-requires c).After-has) ∙ c.if-has.false;
+}
 
 pub returns : goal.returns
 returns c = c.first_read.ensures

@@ -5,7 +5,6 @@ use mathlib.Core.List.{List}
 use mathlib.Core.Option.{Option, none}
 use native.Mathlib.Omega.{arith}
 use lib.ListN.{length, take, drop}
-use borrow.Author.Rules.{rules}
 use Rattle.rules.specs.steps.Register.{Setting, Handler, Register}
 use Rattle.rules.specs.steps.Figure.{overtaken_cell, spent_cell}
 use Rattle.layout.specs.Places.{handler_long}

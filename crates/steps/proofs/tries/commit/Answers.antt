@@ -3,7 +3,6 @@ use Prim.Native.Nat.{◌+◌, ◌≤◌}
 use mathlib.Core.Path.{◌≡◌, refl, ◌∙◌}
 use native.Mathlib.Omega.{arith}
 use lib.ListN.{length}
-use borrow.Author.Rules.{rules}
 use Rattle.layout.specs.Places.{handler_long}
 use Rattle.steps.proofs.Lent.{block_lies, block_of}
 use Rattle.steps.proofs.Committing.{raisable, row_behind, commits}
