@@ -30,4 +30,5 @@ loop-earlier-preserved c =
     )
 
 pub returns : goal.returns
-returns c = let all : c.loop-earlier.earlier ≡ c.args.count = omega arith in record { version = rw all at c.loop-earlier.invariant.3; within = omega arith }
+returns c =
+    let all : c.loop-earlier.earlier ≡ c.args.count = omega arith in record { version = rw all at c.loop-earlier.invariant.3; within = omega arith }

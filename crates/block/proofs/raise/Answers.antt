@@ -9,7 +9,8 @@ use Rattle.block.proofs.raise.Goals as goal
 use Rattle.block.proofs.raise.Goals.{At-loop-y}
 
 -- A number whose turn it is has not been changed.
-same : (c : At-loop-y) → get_or c.loop-y.block (c.transaction_numbers-transaction.result + c.loop-y.y) 0 ≡ transaction_number_in c.args.m c.args.block.now c.loop-y.y
+same : (c : At-loop-y) → get_or c.loop-y.block (c.transaction_numbers-transaction.result + c.loop-y.y) 0 ≡ transaction_number_in c.args.m
+    c.args.block.now c.loop-y.y
 same c =
     c.loop-y.invariant.1.untouched.above (c.transaction_numbers-transaction.result + c.loop-y.y) (omega arith)
     ∙ ap (λ k. get_or c.args.block.now (k + c.loop-y.y) 0) c.transaction_numbers-transaction.ensures
@@ -22,7 +23,9 @@ larger-requires c = let inside : c.loop-y.y < c.args.m = omega arith in
     (omega (arith, same (goal.at.larger-requires c).At-loop-y, c.requires.1 c.loop-y.y inside), c.requires.2 c.loop-y.y inside)
 
 pub loop-y-preserved : goal.loop-y-preserved
-loop-y-preserved c = (omega arith, changed_more _ _ _ _ _ _ c.loop-y.invariant.1 (omega arith) (c.larger.ensures ∙ ap₂ max (same (goal.at.loop-y-preserved c).At-loop-y) refl))
+loop-y-preserved c =
+    (omega arith, changed_more _ _ _ _ _ _ c.loop-y.invariant.1 (omega arith)
+    (c.larger.ensures ∙ ap₂ max (same (goal.at.loop-y-preserved c).At-loop-y) refl))
 
 pub shape_of-block : goal.shape_of-block
 shape_of-block c = c.loop-y.invariant.1.untouched.size

@@ -6,4 +6,5 @@ use Rattle.block.specs.Blocks.{row_table}
 use Rattle.block.proofs.raise.Given as goal
 
 abbrev pub invariant-loop-y : goal.invariant-loop-y
-invariant-loop-y l = (l.y ≤ l.m) × Changed l.transaction l.y (λ j. max (transaction_number_in l.m l.initial.block j) (row_table l.numbers j)) l.initial.block l.block
+invariant-loop-y l =
+    (l.y ≤ l.m) × Changed l.transaction l.y (λ j. max (transaction_number_in l.m l.initial.block j) (row_table l.numbers j)) l.initial.block l.block

@@ -5,4 +5,5 @@ use Rattle.formed.proofs.Gathers.{Told}
 use Rattle.formed.proofs.span_bits.Given as goal
 
 abbrev pub invariant-loop-y : goal.invariant-loop-y
-invariant-loop-y l = (l.from ≤ l.y) × (l.y ≤ l.to) × Told l.bits (λ j. l.from ≤ j → (get_or l.first j 0 ≤ 65535) × (get_or l.second j 0 ≤ 65535)) l.y l.over
+invariant-loop-y l =
+    (l.from ≤ l.y) × (l.y ≤ l.to) × Told l.bits (λ j. l.from ≤ j → (get_or l.first j 0 ≤ 65535) × (get_or l.second j 0 ≤ 65535)) l.y l.over

@@ -2,7 +2,6 @@
 use Prim.Native.Nat.{◌+◌, ◌*◌, ◌^◌}
 use mathlib.Core.Path.{sym, ap, ◌∙◌}
 use native.Mathlib.Omega.{arith}
-use borrow.Author.Rules.{rules}
 use Rattle.rules.specs.steps.Replies.{reply_numbers}
 use Rattle.replies.specs.Meaning.{reply_is}
 use Rattle.gateway.specs.Packed.{packed, reply_number}
@@ -11,7 +10,9 @@ use Rattle.gateway.proofs.pack_answer.Goals as goal
 
 pub pack-requires : goal.pack-requires
 unfolding packed
-pack-requires c = omega (arith, ap (λ n. n.kind) (c.outcome_numbers-numbers.ensures.replied ∙ ap (λ a. reply_numbers (reply_is a)) (sym c.in-Reported.is)), kind_small (reply_is c.args.answer))
+pack-requires c =
+    omega (arith, ap (λ n. n.kind) (c.outcome_numbers-numbers.ensures.replied ∙ ap (λ a. reply_numbers (reply_is a)) (sym c.in-Reported.is)),
+    kind_small (reply_is c.args.answer))
 
 pub returns-in-Reported : goal.returns-in-Reported
 unfolding packed

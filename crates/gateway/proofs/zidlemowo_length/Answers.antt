@@ -3,7 +3,6 @@ use Prim.Native.Nat.{ℕ, ◌≤◌}
 use mathlib.Core.Path.{◌≡◌, refl, sym, ap, ◌∙◌}
 use mathlib.Core.Option.{some, some-injective, some-ne-none}
 use native.Mathlib.Omega.{arith}
-use borrow.Author.Rules.{rules}
 use Rattle.rules.specs.steps.Checks.{in_range}
 use Rattle.rules.proofs.steps.Given.{range_tested}
 use Rattle.rules.proofs.steps.Tables.{by}

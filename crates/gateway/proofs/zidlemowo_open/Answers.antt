@@ -1,6 +1,5 @@
 -- `gateway::zidlemowo_open` meets its promise: the register's, with its reply as a number.
 use mathlib.Core.Path.{sym, ap, ◌∙◌}
-use borrow.Author.Rules.{rules}
 use Rattle.replies.specs.Meaning.{opening_is}
 use Rattle.gateway.specs.Packed.{opening_number}
 use Rattle.gateway.proofs.zidlemowo_open.Goals as goal

@@ -1,6 +1,5 @@
 -- `gateway::zidlemowo_row` meets its promise: that of a row, with its reply as a number.
 use mathlib.Core.Path.{sym, ap, ◌∙◌}
-use borrow.Author.Rules.{rules}
 use Rattle.rows.specs.Meaning.{rowed_is}
 use Rattle.gateway.specs.Packed.{refused_number}
 use Rattle.gateway.proofs.Numbered.{numbered}

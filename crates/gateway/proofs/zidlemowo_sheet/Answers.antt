@@ -1,6 +1,5 @@
 -- `gateway::zidlemowo_sheet` meets its promise: that of adding a file, with its reply as a number.
 use mathlib.Core.Path.{sym, ap, ◌∙◌}
-use borrow.Author.Rules.{rules}
 use Rattle.sheets.specs.Meaning.{added_is}
 use Rattle.gateway.specs.Packed.{refused_number}
 use Rattle.gateway.proofs.Numbered.{numbered}

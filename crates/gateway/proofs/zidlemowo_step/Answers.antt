@@ -1,5 +1,4 @@
 -- `gateway::zidlemowo_step` meets its promise: the register's, with its reply as a number.
-use borrow.Author.Rules.{rules}
 use Rattle.gateway.specs.Packed.{reply_number}
 use Rattle.gateway.proofs.Numbered.{numbered}
 use Rattle.gateway.proofs.zidlemowo_step.Goals as goal

@@ -27,10 +27,12 @@ pub overflow_cast-count : goal.overflow_cast-count
 overflow_cast-count c = omega (arith, (ledger (goal.at.overflow_cast-count c).Else-not-is_ledger).few)
 
 pub present_version-version-requires : goal.present_version-version-requires
-present_version-version-requires c = let kept = ledger (goal.at.present_version-version-requires c).Else-not-is_ledger in omega (arith, kept.long, kept.range.cells, kept.few)
+present_version-version-requires c =
+    let kept = ledger (goal.at.present_version-version-requires c).Else-not-is_ledger in omega (arith, kept.long, kept.range.cells, kept.few)
 
 pub present_content-requires : goal.present_content-requires
-present_content-requires c = let kept = ledger (goal.at.present_content-requires c).Else-not-is_ledger in omega (arith, kept.long, kept.range.cells, kept.few)
+present_content-requires c =
+    let kept = ledger (goal.at.present_content-requires c).Else-not-is_ledger in omega (arith, kept.long, kept.range.cells, kept.few)
 
 pub returns : goal.returns
 returns c = let kept = ledger (goal.at.returns c).Else-not-is_ledger in

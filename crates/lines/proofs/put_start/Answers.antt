@@ -7,7 +7,9 @@ use Rattle.lines.proofs.put_start.Goals as goal
 pub returns : goal.returns
 returns c =
     let args = c.args in record {
-      puts = puts_both (puts_both (puts_both c.put_number-placed.ensures.puts c.put_text-apart.ensures) c.put_number-named.ensures.puts) c.put_text.ensures;
+      puts =
+          puts_both (puts_both (puts_both c.put_number-placed.ensures.puts c.put_text-apart.ensures) c.put_number-named.ensures.puts)
+          c.put_text.ensures;
       upper_bound = omega (
         arith,
         c.put_number-placed.ensures.puts.ends,

@@ -7,4 +7,6 @@ use Rattle.manual.specs.Page.{row_text, head_bytes, row_bytes}
 use Rattle.manual.proofs.put_codes.Given as goal
 
 abbrev pub invariant-loop-code : goal.invariant-loop-code
-invariant-loop-code l = (l.code ≤ 256) × (l.end ≤ head_bytes + l.code * row_bytes) × Puts (in_turn l.code (λ k. row_text k (plain_sheet k))) l.initial.end l.end l.initial.buffer l.buffer
+invariant-loop-code l =
+    (l.code ≤ 256) × (l.end ≤ head_bytes + l.code * row_bytes) × Puts (in_turn l.code (λ k. row_text k (plain_sheet k))) l.initial.end l.end
+    l.initial.buffer l.buffer

@@ -67,7 +67,8 @@ put_report-requires c = omega (arith, fits (goal.at.put_report-requires c).In-lo
 pub loop-k-preserved : goal.loop-k-preserved
 loop-k-preserved c = let told = c.step_formed-turned.ensures _ (table_tells plain_fits c.requires.table_promise _ c.entry_by-entry.ensures) in (
   omega arith,
-  takes_next_lem _ _ _ _ c.loop-k.k (whole (goal.at.loop-k-preserved c).In-loop-k) (fits (goal.at.loop-k-preserved c).In-loop-k) {reply = reply_is c.answer_of.result} c.loop-k.invariant.1
+  takes_next_lem _ _ _ _ c.loop-k.k (whole (goal.at.loop-k-preserved c).In-loop-k) (fits (goal.at.loop-k-preserved c).In-loop-k)
+      {reply = reply_is c.answer_of.result} c.loop-k.invariant.1
       (rw c.answer_of.ensures told.0) told.1 c.put_report.ensures,
 )
 

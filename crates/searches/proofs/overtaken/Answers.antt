@@ -39,7 +39,8 @@ pub overflow_cast-result : goal.overflow_cast-result
 overflow_cast-result c = let at = looked (goal.at.overflow_cast-result c).After-lowest-z in record { fits = omega (arith, cell_inside at, at.among.few) }
 
 pub returns-then-body-held : goal.returns-then-body-held
-returns-then-body-held c = search_finds (looked (goal.at.returns-then-body-held c).After-lowest-z) (ap not (ne_eqb _ _ (rw c.own_number-own.ensures at c.if-body-held.true)))
+returns-then-body-held c =
+    search_finds (looked (goal.at.returns-then-body-held c).After-lowest-z) (ap not (ne_eqb _ _ (rw c.own_number-own.ensures at c.if-body-held.true)))
 
 pub without-left-requires : goal.without-left-requires
 without-left-requires c = let least = c.lowest-z.ensures in (least.low, least.inside)
@@ -48,7 +49,9 @@ pub loop-left-smaller : goal.loop-left-smaller
 loop-left-smaller c = c.without-left.ensures.less
 
 pub loop-left-preserved : goal.loop-left-preserved
-loop-left-preserved c = search_goes (looked (goal.at.loop-left-preserved c).After-lowest-z) c.without-left.ensures (ap not (eq-eqb _ _ (rw c.own_number-own.ensures at c.if-body-held.false)))
+loop-left-preserved c =
+    search_goes (looked (goal.at.loop-left-preserved c).After-lowest-z) c.without-left.ensures
+    (ap not (eq-eqb _ _ (rw c.own_number-own.ensures at c.if-body-held.false)))
 
 pub returns : goal.returns
 returns c = search_misses _ c.loop-left.invariant (omega arith)

@@ -1,11 +1,7 @@
 -- `summary::put_name` meets its contract: each byte is put at its own place.
-use Prim.Native.Nat.{ℕ, ◌+◌, ◌-◌, ◌≤◌}
-use mathlib.Core.Path.{◌≡◌, subst}
-use mathlib.Core.List.{List, [], ◌∷◌}
-use native.Mathlib.Omega.{arith}
+use Prim.Native.Nat.{◌≤◌}
 use lib.ListN.{length, take}
 use Rattle.text.specs.Lies.{Puts}
-use Rattle.text.proofs.Puts.{puts_none, puts_next, puts_all}
 use Rattle.summary.proofs.put_name.Given as goal
 
 abbrev pub invariant-loop-k : goal.invariant-loop-k

@@ -1,12 +1,7 @@
 -- `summary::put_sheet` meets its promise: handler by handler, each line is put.
-use Prim.Native.Nat.{◌+◌, ◌*◌, ◌-◌, ◌≤◌}
 use mathlib.Core.Path.{◌≡◌}
 use native.Mathlib.Omega.{arith}
-use Rattle.text.specs.Bytes.{in_turn}
-use Rattle.text.specs.Lies.{Puts}
 use Rattle.text.proofs.Puts.{in_turn_none, in_turn_more, puts_whole}
-use Rattle.sheets.specs.Sheets.{counted}
-use Rattle.summary.specs.Texts.{row_text}
 use Rattle.summary.proofs.put_sheet.Goals as goal
 
 pub loop-handler-init : goal.loop-handler-init
@@ -24,7 +19,7 @@ pub shape_of-buffer : goal.shape_of-buffer
 shape_of-buffer c = c.loop-handler.invariant.2.size
 
 pub returns : goal.returns
-returns c = 
+returns c =
     let loop = c.loop-handler in
     let all : loop.handler ≡ 16 = omega arith in
     let whole = puts_whole (rw all at loop.invariant.2) in record {

@@ -15,7 +15,8 @@ returns-in-Cell c v = takes_overtaken c.requires.ready _ (asked (goal.at.returns
 
 pub note_commit-requires : goal.note_commit-requires
 note_commit-requires c = let pre = c.requires in
-    (pre.ready.ledger, pre.ready.handler, commit_room pre.ready pre.room (asked (goal.at.note_commit-requires c).After-overtaken_cell ∙ ap found_is c.in_default.is))
+    (pre.ready.ledger, pre.ready.handler, commit_room pre.ready pre.room
+        (asked (goal.at.note_commit-requires c).After-overtaken_cell ∙ ap found_is c.in_default.is))
 
 pub returns : goal.returns
 returns c v = takes_commit c.requires.ready (asked (goal.at.returns c).After-overtaken_cell ∙ ap found_is c.in_default.is) v c.note_commit.ensures

@@ -19,13 +19,18 @@ pub overflow_cast-code : goal.overflow_cast-code
 overflow_cast-code c = omega (arith, c.type_inv.script c.args.at)
 
 pub returns-then-long-eq0 : goal.returns-then-long-eq0
-returns-then-long-eq0 c = front_unknown c.args.script.now c.args.at (omega arith) (takes (goal.at.returns-then-long-eq0 c).After-step_bytes-long) c.if-long-eq0.true
+returns-then-long-eq0 c =
+    front_unknown c.args.script.now c.args.at (omega arith) (takes (goal.at.returns-then-long-eq0 c).After-step_bytes-long) c.if-long-eq0.true
 
 pub returns-then-script-at-2 : goal.returns-then-script-at-2
-returns-then-script-at-2 c = front_cut c.args.script.now c.args.at (omega arith) (takes (goal.at.returns-then-script-at-2 c).After-step_bytes-long) c.if-long-eq0.false (omega arith)
+returns-then-script-at-2 c =
+    front_cut c.args.script.now c.args.at (omega arith) (takes (goal.at.returns-then-script-at-2 c).After-step_bytes-long) c.if-long-eq0.false
+    (omega arith)
 
 pub returns-then-long-lt5 : goal.returns-then-long-lt5
-returns-then-long-lt5 c = front_short c.args.script.now c.args.at (omega arith) (takes (goal.at.returns-then-long-lt5 c).After-step_bytes-long) c.if-long-eq0.false (omega arith) (omega arith)
+returns-then-long-lt5 c =
+    front_short c.args.script.now c.args.at (omega arith) (takes (goal.at.returns-then-long-lt5 c).After-step_bytes-long) c.if-long-eq0.false
+    (omega arith) (omega arith)
 
 pub returns : goal.returns
 returns c = front_write c.args.script.now c.args.at (omega arith) (takes (goal.at.returns c).After-step_bytes-long) c.if-long-eq0.false (omega arith)

@@ -43,7 +43,8 @@ store-requires c = let seated = c.requires.seated in
     )
 
 pub slice_bounds-settle-end : goal.slice_bounds-settle-end
-slice_bounds-settle-end c = omega (arith, lies (goal.at.slice_bounds-settle-end c).After-block_at-span, stored_long (goal.at.slice_bounds-settle-end c).After-store)
+slice_bounds-settle-end c =
+    omega (arith, lies (goal.at.slice_bounds-settle-end c).After-block_at-span, stored_long (goal.at.slice_bounds-settle-end c).After-store)
 
 pub settle-requires : goal.settle-requires
 settle-requires c = block_of c.requires.seated c.block_at-span.ensures _ (stored_long (goal.at.settle-requires c).After-store)

@@ -54,4 +54,5 @@ pub turn-requires : goal.turn-requires
 turn-requires c = rw (behind_is 2 c.args.words.now) (stands c.requires)
 
 pub returns : goal.returns
-returns c code is = (promised (goal.at.returns c).After-turn code is, (step_keeps (promised (goal.at.returns c).After-turn code is) c.requires).well_formed)
+returns c code is =
+    (promised (goal.at.returns c).After-turn code is, (step_keeps (promised (goal.at.returns c).After-turn code is) c.requires).well_formed)
