@@ -2,8 +2,8 @@
 #![tactic(auto)]
 
 // Puts the page into a buffer with room for all of it, and writes it.
-fn main() {
+fn main(rt: HostRuntime) {
     let mut page = [0u8; manual::PAGE_BYTES];
     let long = manual::put_codes(&mut page);
-    filters::write_front(&page, long);
+    filters::write_front(&rt, &page, long);
 }

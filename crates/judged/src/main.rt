@@ -4,14 +4,14 @@
 
 // Reads, judges and writes. One byte more than a file may have is read, so that a file that is too long is noticed.
 // A file that can't be read is no answer: nothing is printed of it.
-fn main() {
-    let mut file = io::large_buffer();
-    let reading = filters::read_file(&mut file);
+fn main(rt: HostRuntime) {
+    let mut file = [0u8; filters::MOST_READ];
+    let reading = filters::read_file(&rt, &mut file);
     if !reading.whole {
         return;
     }
     let count = reading.count;
     let mut printed = filters::room();
     let long = prints::judge(&file[..count], &mut printed);
-    filters::write_front(&printed, long);
+    filters::write_front(&rt, &printed, long);
 }
