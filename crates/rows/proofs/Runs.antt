@@ -21,7 +21,7 @@ unfolding noted_all
 goes_on {m} {n} {before} {words} {h} ran done = subst (λ asks. WordRun m n asks words h) (sym (append-nil before)) ran
 goes_on {m} {n} {before} {words} {h} ran {asks = a ∷ asks} {replies = reply ∷ replies} {after = after} (next p rest) =
     subst (λ all. WordRun m n all after (noted_all (noted h a reply) asks replies)) (append_assoc before (a ∷ []) asks)
-    (goes_on (stepped a ran p) rest)
+    (goes_on {before = before ++ a ∷ []} (stepped a ran p) rest)
 
 -- The third demand holds of rows.
 pub rows_inherit : RowsInherit

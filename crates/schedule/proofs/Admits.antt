@@ -7,7 +7,7 @@ use mathlib.Core.Logic.{◌↔◌, ◌⊎◌, inl, inr}
 use mathlib.Core.Option.{Option, none, some, some-ne-none}
 use native.Mathlib.Omega.{arith}
 use borrow.Author.Tests.{not-true, not-false}
-use Rattle.rules.specs.steps.Replies.{Refusal, bad_file, unknown_step}
+use Rattle.rules.specs.steps.Replies.{Refusal, bad_file, unknown_step, already_open, no_cell, no_handler, no_room, not_open, not_well_formed}
 use Rattle.rules.specs.steps.Checks.{first_hit}
 use Rattle.rules.proofs.steps.Given.{exactly}
 use Rattle.rules.proofs.steps.Tables.{by, both_ways, some_true}
@@ -19,6 +19,7 @@ use Rattle.schedule.specs.Scripts.{is_whole}
 use Rattle.schedule.specs.Admitting.{Admission, refused, all_whole, file_checks, file_refusal, admitted, admission_of, GoodFile}
 use Rattle.schedule.specs.Admitting.{FileGiven, unsound, spoilt, AdmissionPromise}
 use Rattle.schedule.proofs.Sounds.{file_tested, not_sound_file}
+use Rattle.rules.specs.steps.Replies.{out_of_range, sheet_full, too_many_commits, too_short, used_up}
 
 -- Where one place fails the test, not every place passes it.
 pub some_fails : (n : ℕ) (test : ℕ → Bool) (k : ℕ) → k < n → test k ≡ false → false ≡ every_below n test
@@ -63,6 +64,17 @@ module _ (file : List ℕ) where
   file_exactly = exactly (FileGiven file) hits decided
     where
       hits : (refusal : Refusal) → FileGiven file refusal → file_refusal file ≡ some refusal
+      hits not_well_formed given = elim given [ ]
+      hits no_handler given = elim given [ ]
+      hits no_cell given = elim given [ ]
+      hits already_open given = elim given [ ]
+      hits not_open given = elim given [ ]
+      hits out_of_range given = elim given [ ]
+      hits too_short given = elim given [ ]
+      hits used_up given = elim given [ ]
+      hits too_many_commits given = elim given [ ]
+      hits sheet_full given = elim given [ ]
+      hits no_room given = elim given [ ]
       hits bad_file (unsound out) = rw (← not_sound_file out)
       hits unknown_step (spoilt handler sound below fails) =
           rw ((file_tested file).1 sound, ← some_fails (handlers_in file) whole_at handler below fails)

@@ -17,7 +17,11 @@ one_digit (Rules.spent z) = omega arith
 one_digit Rules.gave_up = omega arith
 
 pub returns : goal.returns
-returns c = let cell = c.put_cell_of.ensures in
+returns c = 
+    let cell = c.put_cell_of.ensures in
     let number = rw c.reason_number.ensures.replied at c.put_number-numbered.ensures.puts in
     let reason = reason_is c.args.reason in
-    let text = c.put_text-named.ensures in record { puts = puts_both (puts_both text number) cell.puts; upper_bound = omega (arith, text.ends, number.ends, decimal_short 0 (reason_number reason) (one_digit reason), cell.upper_bound) }
+    let text = c.put_text-named.ensures in record {
+      puts = puts_both (puts_both text number) cell.puts;
+      upper_bound = omega (arith, text.ends, number.ends, decimal_short 0 (reason_number reason) (one_digit reason), cell.upper_bound);
+    }

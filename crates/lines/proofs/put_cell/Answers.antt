@@ -20,8 +20,11 @@ put_text-requires c = omega (
 
 pub returns-in-Cell : goal.returns-in-Cell
 unfolding cell_text
-returns-in-Cell c = let front = puts_both (puts_both c.put_text-named.ensures c.put_number-counted.ensures.puts) c.put_text-apart.ensures in
-    let told = puts_both (puts_both front c.put_content-held.ensures.puts) c.put_text-behind.ensures in record { puts = rw c.in-Cell.is (puts_both (puts_both told c.put_number-all.ensures.puts) c.put_text.ensures); upper_bound = omega (
+returns-in-Cell c = 
+    let front = puts_both (puts_both c.put_text-named.ensures c.put_number-counted.ensures.puts) c.put_text-apart.ensures in
+    let told = puts_both (puts_both front c.put_content-held.ensures.puts) c.put_text-behind.ensures in record {
+      puts = rw c.in-Cell.is (puts_both (puts_both told c.put_number-all.ensures.puts) c.put_text.ensures);
+      upper_bound = omega (
         arith,
         c.put_text-named.ensures.ends,
         c.put_number-counted.ensures.upper_bound,
@@ -30,8 +33,9 @@ returns-in-Cell c = let front = puts_both (puts_both c.put_text-named.ensures c.
         c.put_text-behind.ensures.ends,
         c.put_number-all.ensures.upper_bound,
         c.put_text.ensures.ends,
-      ) }
+      );
+    }
 
 pub returns-in-Missing : goal.returns-in-Missing
 unfolding cell_text
-returns-in-Missing c =  record { puts = rw c.in-Missing.is puts_none; upper_bound = omega arith }
+returns-in-Missing c = record { puts = rw c.in-Missing.is puts_none; upper_bound = omega arith }

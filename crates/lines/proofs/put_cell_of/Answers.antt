@@ -14,4 +14,4 @@ pub returns-in-Spent : goal.returns-in-Spent
 returns-in-Spent c = let put = c.put_named-in-Spent.ensures in record { puts = rw c.in-Spent.is put.puts; upper_bound = put.upper_bound }
 
 pub returns-in-GaveUp : goal.returns-in-GaveUp
-returns-in-GaveUp c =  record { puts = rw c.in-GaveUp.is puts_none; upper_bound = omega arith }
+returns-in-GaveUp c = record { puts = rw c.in-GaveUp.is puts_none; upper_bound = omega arith }

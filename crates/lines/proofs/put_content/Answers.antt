@@ -8,6 +8,9 @@ pub returns-in-Unset : goal.returns-in-Unset
 returns-in-Unset c = let put = c.put_text.ensures in record { puts = rw c.in-Unset.is put; upper_bound = omega (arith, put.ends) }
 
 pub returns-in-Value : goal.returns-in-Value
-returns-in-Value c = let value = c.put_number.ensures in
-    let text = c.put_text-named.ensures in
-    record { puts = rw c.in-Value.is (puts_both text value.puts); upper_bound = omega (arith, text.ends, value.upper_bound) }
+returns-in-Value c = 
+    let value = c.put_number.ensures in
+    let text = c.put_text-named.ensures in record {
+      puts = rw c.in-Value.is (puts_both text value.puts);
+      upper_bound = omega (arith, text.ends, value.upper_bound);
+    }

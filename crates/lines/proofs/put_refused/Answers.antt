@@ -7,4 +7,7 @@ use Rattle.lines.proofs.put_refused.Goals as goal
 
 pub returns : goal.returns
 unfolding refused_text
-returns c =  record { puts = puts_both c.put_refusal-told.ensures.puts c.put_text.ensures; upper_bound = omega (arith, c.put_refusal-told.ensures.upper_bound, c.put_text.ensures.ends) }
+returns c = record {
+      puts = puts_both c.put_refusal-told.ensures.puts c.put_text.ensures;
+      upper_bound = omega (arith, c.put_refusal-told.ensures.upper_bound, c.put_text.ensures.ends);
+    }

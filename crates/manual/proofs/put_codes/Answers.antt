@@ -27,8 +27,11 @@ pub shape_of-buffer : goal.shape_of-buffer
 shape_of-buffer c = let head = c.put_head-end.ensures.puts in c.loop-code.invariant.2.size ∙ head.size
 
 pub returns : goal.returns
-returns c = let loop = c.loop-code in
+returns c = 
+    let loop = c.loop-code in
     let head = c.put_head-end.ensures.puts in
     let all : loop.code ≡ 256 = omega arith in
-    let whole = puts_whole (puts_both head (rw all at loop.invariant.2)) in
-    record { codes_promise = record { replied = whole.0; left = whole.1 }; upper_bound = omega (arith, loop.invariant.1) }
+    let whole = puts_whole (puts_both head (rw all at loop.invariant.2)) in record {
+      codes_promise = record { replied = whole.0; left = whole.1 };
+      upper_bound = omega (arith, loop.invariant.1);
+    }

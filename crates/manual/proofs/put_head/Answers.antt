@@ -8,5 +8,4 @@ use Rattle.manual.proofs.put_head.Goals as goal
 pub returns : goal.returns
 unfolding head_text written
 returns c = let lines = puts_both (puts_both (puts_both c.put_text-titled.ensures c.put_text-first.ensures) c.put_text-second.ensures) c.put_text-third.ensures in
-    let head = puts_both lines c.put_text.ensures in
-    record { puts = head; value = head.ends }
+    let head = puts_both lines c.put_text.ensures in record { puts = head; value = head.ends }

@@ -21,12 +21,16 @@ pub put_column-placed-requires : goal.put_column-placed-requires
 put_column-placed-requires c = (omega (arith, c.put_column-coded.ensures.upper_bound, c.put_step-named.ensures.value, c.requires.0), omega (arith, cell_small (goal.at.put_column-placed-requires c).After-cell_named))
 
 pub returns : goal.returns
-returns c = let kind = c.kind_of-kind.ensures.replied in
-    let named = c.cell_named.ensures ∙ ap cell_named kind in record { puts = puts_both (puts_both (puts_both c.put_column-coded.ensures.puts (rw kind at c.put_step-named.ensures.puts)) (rw named at c.put_column-placed.ensures.puts))
-          c.put_text.ensures; upper_bound = omega (
+returns c = 
+    let kind = c.kind_of-kind.ensures.replied in
+    let named = c.cell_named.ensures ∙ ap cell_named kind in record {
+      puts = puts_both (puts_both (puts_both c.put_column-coded.ensures.puts (rw kind at c.put_step-named.ensures.puts)) (rw named at c.put_column-placed.ensures.puts))
+          c.put_text.ensures;
+      upper_bound = omega (
         arith,
         c.put_column-coded.ensures.upper_bound,
         c.put_step-named.ensures.value,
         c.put_column-placed.ensures.upper_bound,
         c.put_text.ensures.ends,
-      ) }
+      );
+    }

@@ -12,7 +12,7 @@ returns c =
     commit_stored _ _ c.handler_row.ensures c.empty_row.ensures c.copy_row.ensures
 
 -- There are as many words after the row is copied.
-copied_length : (c : After-copy_row) → length c.copy_row.new.0 ≡ length c.args.words.now
+copied_length : (c : After-copy_row) → length c.copy_row.new.words ≡ length c.args.words.now
 copied_length c =
     let pre = c.requires in
     with_length _ _ _ c.copy_row.ensures (omega (arith, pre.0.long, pre.1))
@@ -29,6 +29,6 @@ empty_row-requires c = let pre = c.requires in
 
 pub shape_of-words : goal.shape_of-words
 shape_of-words c = let pre = c.requires in
-    length-set c.empty_row.new.0 2 _
+    length-set c.empty_row.new.words 2 _
     ∙ with_length _ _ _ c.empty_row.ensures (omega (arith, pre.0.long, pre.0.range.handlers, pre.1, copied_length (goal.at.shape_of-words c).After-copy_row))
     ∙ copied_length (goal.at.shape_of-words c).After-copy_row

@@ -27,13 +27,13 @@ pub bounds-file-0 : goal.bounds-file-0
 bounds-file-0 c = omega (arith, head_there ((file_tested _).0 (sound (goal.at.bounds-file-0 c).Else-not-sound_file)))
 
 pub overflow_cast-result : goal.overflow_cast-result
-overflow_cast-result c = omega (arith, c.shared_slice_known-2-1.given 0)
+overflow_cast-result c = omega (arith, c.type_inv.file 0)
 
 pub bounds-file-1 : goal.bounds-file-1
 bounds-file-1 c = omega (arith, head_there ((file_tested _).0 (sound (goal.at.bounds-file-1 c).Else-not-sound_file)))
 
 pub overflow_cast-result-2 : goal.overflow_cast-result-2
-overflow_cast-result-2 c = omega (arith, c.shared_slice_known-3-1.given 1)
+overflow_cast-result-2 c = omega (arith, c.type_inv.file 1)
 
 pub returns : goal.returns
 returns c = admitted_sound (sound (goal.at.returns c).Else-not-sound_file) (sym c.whole_scripts.ensures ∙ c.if-not-whole_scripts.false)

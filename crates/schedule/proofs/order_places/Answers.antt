@@ -25,7 +25,7 @@ bounds-file-0 c = omega (arith, head_there ((file_tested _).0 (sound (goal.at.bo
 
 pub overflow_cast-n : goal.overflow_cast-n
 unfolding places_in
-overflow_cast-n c = omega (arith, c.shared_slice_known-2-1.given 0)
+overflow_cast-n c = omega (arith, c.type_inv.file 0)
 
 pub body-order-requires : goal.body-order-requires
 unfolding places_in

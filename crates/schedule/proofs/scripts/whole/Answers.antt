@@ -14,11 +14,8 @@ use Rattle.schedule.proofs.Wholes.{takes_few, whole_end, whole_unknown, whole_cu
 use Rattle.schedule.proofs.scripts.whole.Goals as goal
 use Rattle.schedule.proofs.scripts.whole.Goals.{After-step_bytes-long}
 
-abbrev text : After-step_bytes-long → List ℕ
-text c = (start c).args.script.now
-
 -- The bytes that the step there takes.
-takes : (c : After-step_bytes-long) → c.step_bytes-long.result ≡ step_bytes (plain_sheet (byte_at (text c) c.loop-at.at))
+takes : (c : After-step_bytes-long) → c.step_bytes-long.result ≡ step_bytes (plain_sheet (byte_at c.args.script.now c.loop-at.at))
 takes c =
     let told = table_tells plain_fits c.requires _ c.entry_by-entry.ensures in
     c.step_bytes-long.ensures ∙ ap step_bytes (c.kind_in.ensures.replied ∙ told)
@@ -27,23 +24,23 @@ pub loop-at-init : goal.loop-at-init
 loop-at-init c = (omega arith, refl)
 
 pub overflow_cast-script : goal.overflow_cast-script
-overflow_cast-script c = omega (arith, c.shared_slice_known-in-loop-at-1.given c.loop-at.at)
+overflow_cast-script c = omega (arith, c.type_inv.script c.loop-at.at)
 
 pub returns-then-long-eq0 : goal.returns-then-long-eq0
 returns-then-long-eq0 c = let there = c.loop-at in
-    sym (there.inv.1 ∙ whole_unknown (text c) there.at (omega arith) (takes (goal.at.returns-then-long-eq0 c).After-step_bytes-long) c.if-long-eq0.true)
+    sym (there.invariant.1 ∙ whole_unknown c.args.script.now there.at (omega arith) (takes (goal.at.returns-then-long-eq0 c).After-step_bytes-long) c.if-long-eq0.true)
 
 pub overflow_add-at : goal.overflow_add-at
-overflow_add-at c = omega (arith, takes (goal.at.overflow_add-at c).After-step_bytes-long, takes_few (plain_sheet (byte_at (text c) c.loop-at.at)))
+overflow_add-at c = omega (arith, takes (goal.at.overflow_add-at c).After-step_bytes-long, takes_few (plain_sheet (byte_at c.args.script.now c.loop-at.at)))
 
 pub returns-then-script-at : goal.returns-then-script-at
 returns-then-script-at c = let there = c.loop-at in
-    sym (there.inv.1 ∙ whole_cut (text c) there.at (omega arith) (takes (goal.at.returns-then-script-at c).After-step_bytes-long) c.if-long-eq0.false (omega arith))
+    sym (there.invariant.1 ∙ whole_cut c.args.script.now there.at (omega arith) (takes (goal.at.returns-then-script-at c).After-step_bytes-long) c.if-long-eq0.false (omega arith))
 
 pub loop-at-preserved : goal.loop-at-preserved
 loop-at-preserved c = let there = c.loop-at in
-    let behind = whole_next (text c) there.at (omega arith) (takes (goal.at.loop-at-preserved c).After-step_bytes-long) c.if-long-eq0.false (omega arith) in
-    (omega arith, there.inv.1 ∙ behind)
+    let behind = whole_next c.args.script.now there.at (omega arith) (takes (goal.at.loop-at-preserved c).After-step_bytes-long) c.if-long-eq0.false (omega arith) in
+    (omega arith, there.invariant.1 ∙ behind)
 
 pub returns : goal.returns
 returns c = sym (c.loop-at.invariant.1 ∙ whole_end _ c.loop-at.at (omega arith))

@@ -15,23 +15,23 @@ pub returns-then-file-lt2 : goal.returns-then-file-lt2
 returns-then-file-lt2 c = not_sound_file (λ sound. omega (arith, head_there sound))
 
 pub overflow_cast-m : goal.overflow_cast-m
-overflow_cast-m c = omega (arith, c.shared_slice_known-3-1.given 1)
+overflow_cast-m c = omega (arith, c.type_inv.file 1)
 
 pub overflow_cast-n : goal.overflow_cast-n
-overflow_cast-n c = omega (arith, c.shared_slice_known-3-1.given 0)
+overflow_cast-n c = omega (arith, c.type_inv.file 0)
 
 pub returns-then-not-in_range : goal.returns-then-not-in_range
 returns-then-not-in_range c = let out = sym c.in_range.ensures.replied ∙ c.if-not-in_range.true in
     not_sound_file (λ sound. both_ways ((range_tested _ _).1 sound.range) out)
 
 pub overflow_cast-n-2 : goal.overflow_cast-n-2
-overflow_cast-n-2 c = omega (arith, c.shared_slice_known-3-1.given 0)
+overflow_cast-n-2 c = omega (arith, c.type_inv.file 0)
 
 pub overflow_add-n : goal.overflow_add-n
-overflow_add-n c = omega (arith, c.shared_slice_known-3-1.given 0)
+overflow_add-n c = omega (arith, c.type_inv.file 0)
 
 pub sound_table-requires : goal.sound_table-requires
-sound_table-requires c = omega (arith, c.shared_slice_known-3-1.given 0)
+sound_table-requires c = omega (arith, c.type_inv.file 0)
 
 pub returns : goal.returns
 returns c = let ranged = sym c.in_range.ensures.replied ∙ c.if-not-in_range.false in

@@ -24,7 +24,7 @@ pub bounds-file-0 : goal.bounds-file-0
 bounds-file-0 c = omega (arith, head_there c.requires)
 
 pub overflow_cast-n : goal.overflow_cast-n
-overflow_cast-n c = omega (arith, c.shared_slice_known-2-1.given 0)
+overflow_cast-n c = omega (arith, c.type_inv.file 0)
 
 pub loop-handler-init : goal.loop-handler-init
 loop-handler-init c = (omega arith, c.plain_table-table.ensures, λ h below. absurd (omega arith))

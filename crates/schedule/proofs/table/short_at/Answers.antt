@@ -12,14 +12,14 @@ small : (c : Start) → let args = c.args in
     (byte_at args.bytes.now args.place ≤ 255) × (byte_at args.bytes.now (args.place + 1) ≤ 255)
 small c =
     let place = c.args.place in
-    (omega (arith, c.shared_slice_known-1.given place), omega (arith, c.shared_slice_known-2-1.given (place + 1)))
+    (omega (arith, c.type_inv.bytes place), omega (arith, c.type_inv.bytes (place + 1)))
 
 pub returns : goal.returns
 unfolding short_at
 returns c = (refl, omega (arith, small (goal.at.returns c).Start))
 
 pub overflow_cast-high : goal.overflow_cast-high
-overflow_cast-high c = omega (arith, c.shared_slice_known-1.given c.args.place)
+overflow_cast-high c = omega (arith, c.type_inv.bytes c.args.place)
 
 pub overflow_cast-low : goal.overflow_cast-low
 overflow_cast-low c = omega (arith, small (goal.at.overflow_cast-low c).Start)

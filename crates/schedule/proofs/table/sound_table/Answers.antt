@@ -20,7 +20,6 @@ passed c = sym c.short_at-offset.ensures.0 ∙ c.if-offset-due.false ∙ c.loop-
 next : (c : After-short_at) → let args = c.args in
     c.short_at-offset.result + c.short_at.result ≡ due_at args.file.now args.start args.entries (c.loop-k.k + 1)
 next c =
-    let c = c in
     let args = c.args in
     omega (arith, due_next args.file.now args.start args.entries c.loop-k.k, c.short_at.ensures.0)
 
@@ -38,4 +37,4 @@ loop-k-preserved c = (omega arith, next (goal.at.loop-k-preserved c).After-short
 
 pub returns : goal.returns
 returns c = let all : c.loop-k.k ≡ c.args.entries = omega arith in
-    ends_answer _ _ _ _ (omega arith) (rw all c c.loop-k.invariant.2) (rw all c c.loop-k.invariant.1)
+    ends_answer _ _ _ _ (omega arith) (rw all at c.loop-k.invariant.2) (rw all at c.loop-k.invariant.1)

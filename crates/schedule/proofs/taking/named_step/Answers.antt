@@ -19,37 +19,36 @@ below c = omega arith
 
 -- What stands in front was looked for in what is left of the handler's script.
 front : (c : After-in_front) → let args = c.args in
-    FrontOf (left_of args.file.now args.t2.at args.handler) c.in_front.result
+    FrontOf (left_of args.file.now args.cursors.at args.handler) c.in_front.result
 front c =
     let args = c.args in
-    subst (λ script. FrontOf (drop (cursor_of args.t2.at args.handler) script) c.in_front.result)
+    subst (λ script. FrontOf (drop (cursor_of args.cursors.at args.handler) script) c.in_front.result)
     c.body-script.ensures c.in_front.ensures
 
 -- A refusal stands there,
 refuses : (c : In-Refuses) → let args = c.args in
-    FrontOf (left_of args.file.now args.t2.at args.handler) (Refuses c.in-Refuses.refusal)
+    FrontOf (left_of args.file.now args.cursors.at args.handler) (Refuses c.in-Refuses.refusal)
 refuses c =
     let args = c.args in
-    subst (FrontOf (left_of args.file.now args.t2.at args.handler))
-    c.in-Refuses.is ((let args = c.args in subst (λ script. FrontOf (drop (cursor_of args.t2.at args.handler) script) c.in_front.result) c.body-script.ensures c.in_front.ensures))
+    subst (FrontOf (left_of args.file.now args.cursors.at args.handler))
+    c.in-Refuses.is ((let args = c.args in subst (λ script. FrontOf (drop (cursor_of args.cursors.at args.handler) script) c.in_front.result) c.body-script.ensures c.in_front.ensures))
 
 -- or a step.
 stands : (c : In-Stands) → let args = c.args in
-    let step = c.code-1.given.0 in
-    StepInFront (left_of args.file.now args.t2.at args.handler) step.0 step.1.0 step.1.1.0
+    StepInFront (left_of args.file.now args.cursors.at args.handler) c.in-Stands.code c.in-Stands.value c.in-Stands.long
 stands c =
     let args = c.args in
-    subst (FrontOf (left_of args.file.now args.t2.at args.handler))
-    c.in-Stands.is ((let args = c.args in subst (λ script. FrontOf (drop (cursor_of args.t2.at args.handler) script) c.in_front.result) c.body-script.ensures c.in_front.ensures))
+    subst (FrontOf (left_of args.file.now args.cursors.at args.handler))
+    c.in-Stands.is ((let args = c.args in subst (λ script. FrontOf (drop (cursor_of args.cursors.at args.handler) script) c.in_front.result) c.body-script.ensures c.in_front.ensures))
 
 -- The cursor behind the step is a place of the file.
 further : (c : In-Stands) → let args = c.args in
-    cursor_of args.t2.at args.handler + c.in-Stands.long ≤ length args.file.now
+    cursor_of args.cursors.at args.handler + c.in-Stands.long ≤ length args.file.now
 further c =
     let args = c.args in
     let script = script_in args.file.now args.handler in
-    let left = length-drop (cursor_of args.t2.at args.handler) script in
-    omega (arith, (stands c).takes, (stands c).ranges, left, body_short args.file.now table_start args.handler)
+    let left = length-drop (cursor_of args.cursors.at args.handler) script in
+    omega (arith, (stands c).takes, (stands c).fits, left, body_short args.file.now table_start args.handler)
 
 pub bounds-file-0 : goal.bounds-file-0
 bounds-file-0 c = omega (arith, head_there c.requires)

@@ -22,7 +22,7 @@ pub bounds-file-0 : goal.bounds-file-0
 bounds-file-0 c = omega (arith, head_there ((file_tested _).0 (sound (goal.at.bounds-file-0 c).Else-not-sound_file)))
 
 pub overflow_cast-n : goal.overflow_cast-n
-overflow_cast-n c = omega (arith, c.shared_slice_known-2-1.given 0)
+overflow_cast-n c = omega (arith, c.type_inv.file 0)
 
 pub body-order-requires : goal.body-order-requires
 body-order-requires c = (_, ((file_tested _).0 (sound (goal.at.body-order-requires c).Else-not-sound_file)).table, omega arith)

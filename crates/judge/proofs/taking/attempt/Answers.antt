@@ -1,0 +1,22 @@
+-- `judge::taking::attempt` meets its contract: a stale read ends the transaction, and without one it commits.
+use mathlib.Core.Path.{◌≡◌, ap, ◌∙◌}
+use borrow.Author.Rules.{rules}
+use Rattle.words.specs.Sets.{found_is}
+use Rattle.judge.proofs.Answers.{stale_cell, stale_told, takes_overtaken, takes_commit, commit_room}
+use Rattle.judge.proofs.taking.attempt.Goals as goal
+use Rattle.judge.proofs.taking.attempt.Goals.{After-overtaken_cell}
+
+-- What was asked of the row.
+asked : (c : After-overtaken_cell) → let args = c.args in stale_cell args.words.now args.i ≡ found_is c.overtaken_cell.result
+asked c = stale_told c.requires.ready c.handler_row-row.ensures c.overtaken_cell.ensures
+
+pub returns-in-Cell : goal.returns-in-Cell
+returns-in-Cell c v = takes_overtaken c.requires.ready _ (asked (goal.at.returns-in-Cell c).After-overtaken_cell ∙ ap found_is c.in-Cell.is) v
+    c.handler_row-row.ensures c.empty_row.ensures
+
+pub note_commit-requires : goal.note_commit-requires
+note_commit-requires c = let pre = c.requires in
+    (pre.ready.ledger, pre.ready.handler, commit_room pre.ready pre.room (asked (goal.at.note_commit-requires c).After-overtaken_cell ∙ ap found_is c.in_default.is))
+
+pub returns : goal.returns
+returns c v = takes_commit c.requires.ready (asked (goal.at.returns c).After-overtaken_cell ∙ ap found_is c.in_default.is) v c.note_commit.ensures
