@@ -4,7 +4,7 @@
 // the system no contract knows them.
 #![tactic(auto)]
 
-ghost use Rattle.std.specs.Prelude.{◌≡◌, ◌<◌, ◌≤◌, ◌⊎◌, length, take, IsTrue};
+ghost use Rattle.std.specs.Prelude.{◌≡◌, ◌<◌, ◌≤◌, length, take, IsTrue, IfSome};
 ghost use Rattle.std.specs.Io.KnownBytes.{Appends, Consumes, IsAtEnd};
 ghost use Rattle.io.specs.Counts.{IsPrefixLen};
 ghost use Rattle.limits.specs.Limits.{most_printed};
@@ -20,6 +20,13 @@ pub const MOST_READ: usize = limits::MOST_FILE_BYTES + 1;
 pub struct Reading {
     pub count: usize,
     pub whole: bool,
+}
+
+// What failed of reading a file and writing a text of it; why, is said on standard error by then.
+#[derive(Clone, Copy)]
+pub enum Failed {
+    NotRead,
+    NotWritten,
 }
 
 // Says on standard error what failed, and why. That this fails too can't be said anywhere.
@@ -50,7 +57,8 @@ fn read_some<R: Read>(rt: &HostRuntime, input: &mut R, name: &[u8], part: &mut [
 pub fn read_from<R: Read>(rt: &HostRuntime, input: &mut R, name: &[u8], file: &mut [u8]) -> Reading
     ensures count { IsPrefixLen result.count file.new }
     ensures bytes { Consumes (R.remaining input.old) (R.remaining input.new) (take result.count file.new) }
-    ensures end { IsTrue result.whole → (result.count ≡ length file.new) ⊎ IsAtEnd (R.remaining input.new) }
+    ensures front { IsTrue result.whole → IfSome (R.remaining input.old)
+        (λ bytes. take result.count file.new ≡ take (length file.new) bytes) }
 {
     let mut count = 0;
     let mut whole = true;
@@ -66,38 +74,28 @@ pub fn read_from<R: Read>(rt: &HostRuntime, input: &mut R, name: &[u8], file: &m
     Reading { count, whole }
 }
 
-// Reads standard input.
-pub fn read_file(rt: &HostRuntime, file: &mut [u8]) -> Reading
-    ensures { IsPrefixLen result.count file.new }
+// Reads standard input, or what stands for it.
+pub fn read_file<R: Read>(rt: &HostRuntime, input: &mut R, file: &mut [u8]) -> Reading
+    ensures count { IsPrefixLen result.count file.new }
+    ensures bytes { Consumes (R.remaining input.old) (R.remaining input.new) (take result.count file.new) }
+    ensures front { IsTrue result.whole → IfSome (R.remaining input.old)
+        (λ bytes. take result.count file.new ≡ take (length file.new) bytes) }
 {
-    read_from(rt, &mut rt.stdin(), b"standard input", file)
+    read_from(rt, input, b"standard input", file)
 }
 
-// Writes the front of a buffer, and says so under the name of where it goes if that fails; whether it did not fail.
-pub fn write_to<W: Write>(
-    rt: &HostRuntime,
-    output: &mut W,
-    name: &[u8],
-    buffer: &[u8],
-    long: usize,
-) -> bool
+// Writes the front of a buffer to standard output, or what stands for it, and says so if that fails; whether it did not fail.
+pub fn write_front<W: Write>(rt: &HostRuntime, output: &mut W, buffer: &[u8], long: usize) -> bool
     requires { long ≤ length buffer.now }
     ensures { IsTrue result → Appends (W.contents output.old) (W.contents output.new) (take long buffer.now) }
 {
     match output.write_all(&buffer[..long]) {
         Ok(()) => true,
         Err(error) => {
-            say(rt, name, error);
+            say(rt, b"standard output", error);
             false
         }
     }
-}
-
-// Writes the front of a buffer to standard output, and says so if that fails.
-pub fn write_front(rt: &HostRuntime, buffer: &[u8], long: usize)
-    requires { long ≤ length buffer.now }
-{
-    let _ = write_to(rt, &mut rt.stdout(), b"standard output", buffer, long);
 }
 
 // A buffer of zeros with room for everything that is printed of any file.
