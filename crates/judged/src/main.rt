@@ -2,9 +2,8 @@
 // a 65th commit the last line printed is that step's, `refused 33`.
 #![tactic(auto)]
 
-ghost use Rattle.std.specs.Prelude.{◌+◌, take, IfSome, OnOk, IsErrOf};
+ghost use Rattle.std.specs.Prelude.{IfSome, OnOk, IsErrOf};
 ghost use Rattle.std.specs.Io.KnownBytes.{Appends, Keeps};
-ghost use Rattle.limits.specs.Limits.{most_file_bytes};
 ghost use Rattle.prints.specs.Printed.{judged_printed};
 
 use filters::Failed;
@@ -14,7 +13,7 @@ use std::io::{Read, Write};
 // A file that can't be read is no answer: nothing is printed of it.
 fn answer<R: Read, W: Write>(rt: &HostRuntime, input: &mut R, output: &mut W) -> Result<(), Failed>
     ensures written { OnOk result (IfSome (R.remaining input.old) (λ bytes.
-        Appends (W.contents output.old) (W.contents output.new) (judged_printed (take (most_file_bytes + 1) bytes)))) }
+        Appends (W.contents output.old) (W.contents output.new) (judged_printed bytes))) }
     ensures not_read { IsErrOf result Failed.NotRead → Keeps (W.contents output.old) (W.contents output.new) }
 {
     let mut file = [0u8; filters::MOST_READ];

@@ -18,7 +18,7 @@ fn print_added(rt: &HostRuntime, name: &[u8], added: Added)
 {
     let mut printed = [0u8; summary::MOST_ADDED];
     let long = summary::put_added(&mut printed, name, added);
-    filters::write_front(rt, &printed, long);
+    let _ = filters::write_front(rt, &mut rt.stdout(), &printed, long);
 }
 
 // Adds a file that is open. One byte more than a file may have is read, so that a file that is too long is noticed.
@@ -85,5 +85,5 @@ fn main(rt: HostRuntime) {
     add_arguments(&rt, &mut sheet);
     let mut printed = [0u8; summary::MOST_SUMMARY];
     let long = summary::put_sheet(&sheet, &mut printed);
-    filters::write_front(&rt, &printed, long);
+    let _ = filters::write_front(&rt, &mut rt.stdout(), &printed, long);
 }
