@@ -76,7 +76,7 @@ module _ {e : Engine} (keeps : KeepsPromise e) where
   unfolding in_phase
   not_untouched untouched =
       let phases : ◌≡◌ {A = ℕ} 0 1 = ap (λ words. get_or words 4 0) (sym (untouched (in_phase 0) 0 0 0) ∙ (keeps (in_phase 0) 0 0 0).left) ∙
-          computed.phase in
+      computed.phase in
       omega arith
 
   -- None aborts every try.

@@ -1,13 +1,19 @@
 // What every program here does at its two ends: a file is read to its end, and a text is written to standard output. A read or a write
 // that fails is said on standard error, and never taken for an answer.
-// Internal: called by our programs alone. The kit can't say what is read or written.
+// Internal: called by our programs alone. What is read and written is said of a reader and a writer whose bytes are known; of those of
+// the system no contract knows them.
 #![tactic(auto)]
 
-ghost use Rattle.std.specs.Prelude.{◌≤◌, ◌≡◌, length};
+ghost use Rattle.std.specs.Prelude.{◌≡◌, ◌<◌, ◌≤◌, length, take, IsTrue, IfSome};
+ghost use Rattle.std.specs.Io.KnownBytes.{Appends, Consumes, IsAtEnd};
 ghost use Rattle.io.specs.Counts.{IsPrefixLen};
 ghost use Rattle.limits.specs.Limits.{most_printed};
 
-use libc::{STDIN_FILENO, STDOUT_FILENO};
+use std::fmt::Display;
+use std::io::{Read, Write};
+
+// As many bytes as are read of a file: one more than it may have, so that a file that is too long is noticed.
+pub const MOST_READ: usize = limits::MOST_FILE_BYTES + 1;
 
 // What was read: how many bytes stand at the start of the buffer, and whether no read failed.
 #[derive(Clone, Copy)]
@@ -16,28 +22,48 @@ pub struct Reading {
     pub whole: bool,
 }
 
+// What failed of reading a file and writing a text of it; why, is said on standard error by then.
+#[derive(Clone, Copy)]
+pub enum Failed {
+    NotRead,
+    NotWritten,
+}
+
+// Says on standard error what failed, and why. That this fails too can't be said anywhere.
+pub fn say<D: Display + Drop>(rt: &HostRuntime, name: &[u8], why: D) {
+    let _ = rt.stderr().write_all(name);
+    let _ = rt.eprintln(format_args!(": {why}"));
+}
+
 // One read into a part of a buffer. Where it fails, that is said under the file's name.
-fn read_some(descriptor: i32, name: &[u8], part: &mut [u8]) -> Reading
-    ensures { IsPrefixLen result.count part.new }
+fn read_some<R: Read>(rt: &HostRuntime, input: &mut R, name: &[u8], part: &mut [u8]) -> Reading
+    ensures count { IsPrefixLen result.count part.new }
+    ensures bytes { Consumes (R.remaining input.old) (R.remaining input.new) (take result.count part.new) }
+    ensures end { IsTrue result.whole → result.count ≡ 0 → 0 < length part.new → IsAtEnd (R.remaining input.new) }
 {
-    let got = libc::read(descriptor, part);
-    if got < 0 {
-        os::fail(name);
-    }
-    Reading {
-        count: io::count(got, part),
-        whole: got >= 0,
+    match input.read(part) {
+        Ok(count) => Reading { count, whole: true },
+        Err(error) => {
+            say(rt, name, error);
+            Reading {
+                count: 0,
+                whole: false,
+            }
+        }
     }
 }
 
-// Reads a file to its end, or until the buffer is full; a read that fails ends it too.
-pub fn read_from(descriptor: i32, name: &[u8], file: &mut [u8]) -> Reading
-    ensures { IsPrefixLen result.count file.new }
+// Reads a file to its end, or until the buffer is full; a read that fails ends it too, and is said under the file's name.
+pub fn read_from<R: Read>(rt: &HostRuntime, input: &mut R, name: &[u8], file: &mut [u8]) -> Reading
+    ensures count { IsPrefixLen result.count file.new }
+    ensures bytes { Consumes (R.remaining input.old) (R.remaining input.new) (take result.count file.new) }
+    ensures front { IsTrue result.whole → IfSome (R.remaining input.old)
+        (λ bytes. take result.count file.new ≡ take (length file.new) bytes) }
 {
     let mut count = 0;
     let mut whole = true;
     while count < file.len() {
-        let reading = read_some(descriptor, name, &mut file[count..]);
+        let reading = read_some(rt, input, name, &mut file[count..]);
         whole = reading.whole;
         let more = reading.count;
         if more == 0 {
@@ -48,20 +74,27 @@ pub fn read_from(descriptor: i32, name: &[u8], file: &mut [u8]) -> Reading
     Reading { count, whole }
 }
 
-// Reads standard input.
-pub fn read_file(file: &mut [u8]) -> Reading
-    ensures { IsPrefixLen result.count file.new }
+// Reads standard input, or what stands for it.
+pub fn read_file<R: Read>(rt: &HostRuntime, input: &mut R, file: &mut [u8]) -> Reading
+    ensures count { IsPrefixLen result.count file.new }
+    ensures bytes { Consumes (R.remaining input.old) (R.remaining input.new) (take result.count file.new) }
+    ensures front { IsTrue result.whole → IfSome (R.remaining input.old)
+        (λ bytes. take result.count file.new ≡ take (length file.new) bytes) }
 {
-    read_from(STDIN_FILENO, b"standard input", file)
+    read_from(rt, input, b"standard input", file)
 }
 
-// Writes the front of a buffer to standard output, and says so if that fails.
-pub fn write_front(buffer: &[u8], long: usize)
+// Writes the front of a buffer to standard output, or what stands for it, and says so if that fails; whether it did not fail.
+pub fn write_front<W: Write>(rt: &HostRuntime, output: &mut W, buffer: &[u8], long: usize) -> bool
     requires { long ≤ length buffer.now }
+    ensures { IsTrue result → Appends (W.contents output.old) (W.contents output.new) (take long buffer.now) }
 {
-    let written = io::write_all(STDOUT_FILENO, &buffer[..long]);
-    if !written {
-        os::fail(b"standard output");
+    match output.write_all(&buffer[..long]) {
+        Ok(()) => true,
+        Err(error) => {
+            say(rt, b"standard output", error);
+            false
+        }
     }
 }
 

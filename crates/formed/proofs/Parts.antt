@@ -98,7 +98,7 @@ pub record CellsLaid (m long ahead end : ℕ) : Type 0 where
 -- They are where the cells begin, where the middle one does, and where the blocks do.
 pub cells_laid : {m start end start' end' start'' end'' : ℕ} → m ≤ 32 → Spans (cell_start m 0) (cell_long m) start end
     → Spans (cell_start m (m / 2)) (cell_long m) start' end' → Spans (handler_start m 0) (handler_long m) start'' end'' → CellsLaid m end start'
-        (start'' - start')
+    (start'' - start')
 cells_laid {m} h first middle block =
     omega (arith, first.starts, first.ends, middle.starts, block.starts, parts, cell_start_small m m h h)
   where

@@ -175,7 +175,7 @@ module _ {words : List ℕ} {m i : ℕ} {s : Step} (ready : JudgeReady words m i
   torn_told x {place = place} there wrote e =
       ap (tears_at (cells_of words) (commits words) (deeds words i)) (sym wrote)
       ∙ sym (e ∙ ap₂ (λ cells row. tears_at cells (commits_in cells words (commits_noted words)) (deeds_of (entry_in words row) cells) place)
-          ready.cells there)
+      ready.cells there)
 
 -- What was found of a row that is the handler's is what the handler's row says.
 pub touched_told : (words : List ℕ) (i x : ℕ) {row : ℕ} {told : Bool} → row ≡ handler_row i

@@ -6,3 +6,4 @@ pub mod Scripts
 pub mod Places
 pub mod RunOf
 pub mod GoesOn
+pub mod Fronts

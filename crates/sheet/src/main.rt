@@ -7,66 +7,83 @@ ghost use Rattle.std.specs.Prelude.{◌≤◌, length};
 ghost use Rattle.summary.specs.Texts.{longest_name};
 
 use sheets::Added;
+use std::env::FillError;
+use std::io::Read;
+use std::rt::Env;
+use std::{fs, str};
 
 // Prints the line of a file, by one write.
-fn print_added(name: &[u8], added: Added)
+fn print_added(rt: &HostRuntime, name: &[u8], added: Added)
     requires { length name.now ≤ longest_name }
 {
     let mut printed = [0u8; summary::MOST_ADDED];
     let long = summary::put_added(&mut printed, name, added);
-    filters::write_front(&printed, long);
+    let _ = filters::write_front(rt, &mut rt.stdout(), &printed, long);
 }
 
 // Adds a file that is open. One byte more than a file may have is read, so that a file that is too long is noticed.
-fn add_open(sheet: &mut [u32], descriptor: i32, name: &[u8])
+fn add_open<R: Read>(rt: &HostRuntime, sheet: &mut [u32], input: &mut R, name: &[u8])
     requires { length name.now ≤ longest_name }
 {
-    let mut file = io::large_buffer();
-    let reading = filters::read_from(descriptor, name, &mut file);
+    let mut file = [0u8; filters::MOST_READ];
+    let reading = filters::read_from(rt, input, name, &mut file);
     if !reading.whole {
         return;
     }
     let count = reading.count;
     let added = sheets::add_file(sheet, &file[..count]);
-    print_added(name, added);
+    print_added(rt, name, added);
 }
 
-// Adds the file of a name.
-fn add_named(sheet: &mut [u32], name: &[u8])
+// Adds the file of a path, which is its name as text.
+fn add_path(rt: &HostRuntime, sheet: &mut [u32], path: &str)
+    requires { length path.now ≤ longest_name }
+{
+    let name = path.as_bytes();
+    match fs::open(rt, path) {
+        Ok(input) => {
+            let mut input = input;
+            add_open(rt, sheet, &mut input, name);
+        }
+        Err(error) => filters::say(rt, name, error),
+    }
+}
+
+// Adds the file of a name. A file is opened by a path of UTF-8 alone, so of another name that is said.
+fn add_named(rt: &HostRuntime, sheet: &mut [u32], name: &[u8])
     requires { length name.now ≤ longest_name }
 {
-    let descriptor = os::open_read(name);
-    if descriptor < 0 {
-        os::fail(name);
-        return;
+    match str::from_utf8(name) {
+        Ok(path) => add_path(rt, sheet, path),
+        Err(error) => filters::say(rt, name, error),
     }
-    add_open(sheet, descriptor, name);
-    libc::close(descriptor);
 }
 
-// Adds the file that an argument names. Of an argument that is too long for a name, its first bytes are said.
-fn add_argument(sheet: &mut [u32], i: usize) {
-    let mut name = io::buffer();
-    let long = os::arg(i, &mut name);
-    if os::errno() != 0 {
-        os::fail(&name);
-        return;
+// Adds the file that an argument names; whether there is such an argument. Of one that is too long for a name, its first bytes are said.
+fn add_argument(rt: &HostRuntime, sheet: &mut [u32], i: usize) -> bool {
+    let mut name = [0u8; summary::LONGEST_NAME];
+    match rt.arg(i, &mut name) {
+        Ok(long) => add_named(rt, sheet, &name[..long]),
+        Err(FillError::TooLong) => filters::say(rt, &name, "File name too long"),
+        Err(FillError::NotPresent) => return false,
     }
-    add_named(sheet, &name[..long]);
+    true
 }
 
 // Adds the files of all arguments, in order; the first argument is the program's own name.
-fn add_arguments(sheet: &mut [u32]) {
-    for i in 1..os::arg_count() {
-        add_argument(sheet, i);
+fn add_arguments(rt: &HostRuntime, sheet: &mut [u32]) {
+    for i in 1..usize::MAX {
+        if !add_argument(rt, sheet, i) {
+            break;
+        }
     }
 }
 
 // Adds, and prints the sheet.
-fn main() {
+fn main(rt: HostRuntime) {
     let mut sheet = [0u32; limits::SHEET_WORDS];
-    add_arguments(&mut sheet);
+    add_arguments(&rt, &mut sheet);
     let mut printed = [0u8; summary::MOST_SUMMARY];
     let long = summary::put_sheet(&sheet, &mut printed);
-    filters::write_front(&printed, long);
+    let _ = filters::write_front(&rt, &mut rt.stdout(), &printed, long);
 }

@@ -10,4 +10,4 @@ use Rattle.answers.proofs.present_version.Given as goal
 abbrev pub invariant-loop-earlier : goal.invariant-loop-earlier
 invariant-loop-earlier l = (l.earlier ≤ l.count) × (l.writer ≤ l.earlier) × (l.number ≤ l.earlier)
     × ((m : ℕ) → l.x < m → (l.writer ≡ History.writer (commits_in m l.words l.earlier) l.x) ×
-        (l.number ≡ version_count (commits_in m l.words l.earlier) l.x))
+    (l.number ≡ version_count (commits_in m l.words l.earlier) l.x))

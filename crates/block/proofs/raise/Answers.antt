@@ -23,9 +23,11 @@ larger-requires c = let inside : c.loop-y.y < c.args.m = omega arith in
     (omega (arith, same (goal.at.larger-requires c).At-loop-y, c.requires.1 c.loop-y.y inside), c.requires.2 c.loop-y.y inside)
 
 pub loop-y-preserved : goal.loop-y-preserved
-loop-y-preserved c =
-    (omega arith, changed_more _ _ _ _ _ _ c.loop-y.invariant.1 (omega arith)
-    (c.larger.ensures ∙ ap₂ max (same (goal.at.loop-y-preserved c).At-loop-y) refl))
+loop-y-preserved c = (
+  omega arith,
+  changed_more _ _ _ _ _ _ c.loop-y.invariant.1 (omega arith)
+      (c.larger.ensures ∙ ap₂ max (same (goal.at.loop-y-preserved c).At-loop-y) refl),
+)
 
 pub shape_of-block : goal.shape_of-block
 shape_of-block c = c.loop-y.invariant.1.untouched.size

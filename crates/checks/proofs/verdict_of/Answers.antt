@@ -27,7 +27,7 @@ by_phase : (c : After-is_begin) {begins opened : Bool} → let args = c.args in
 by_phase c begins opened =
     let placed = sym c.is_beyond.ensures ∙ c.if-is_beyond.false in
     ap₂ phased (sym begins ∙ c.is_begin.ensures) (sym opened) ∙ stops_phased _ refl (known c.before.before.before.before)
-        (inside c.before.before.before) placed
+    (inside c.before.before.before) placed
 
 -- What the checks say is all that is promised.
 says : {asked : Asked} {verdict : Option Refusal} → verdict ≡ first_hit (step_checks asked) → VerdictPromise asked verdict

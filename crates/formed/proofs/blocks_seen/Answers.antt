@@ -23,23 +23,36 @@ laid c =
 -- The block at hand ends where the words do or before.
 ends : (c : In-loop-at) → let args = c.args in c.loop-at.at + handler_long args.m ≤ length args.body.now
 ends c =
-    omega (arith, row_inside c.loop-at.invariant
-    (omega (arith, (blocks_laid (c.requires.0, c.requires.1) c.block_at-block.ensures c.transaction_numbers-behind.ensures
-    c.body_words-end.ensures).whole)), c.requires.2)
+    omega (
+      arith,
+      row_inside c.loop-at.invariant
+          (omega (
+            arith,
+            (blocks_laid (c.requires.0, c.requires.1) c.block_at-block.ensures c.transaction_numbers-behind.ensures
+                c.body_words-end.ensures).whole,
+          )),
+      c.requires.2,
+    )
 
 -- There is a block at hand.
 here : (c : In-loop-at) → c.loop-at.invariant.row < c.args.n
 here c =
     row_there c.loop-at.invariant
-    (omega (arith, (blocks_laid (c.requires.0, c.requires.1) c.block_at-block.ensures c.transaction_numbers-behind.ensures
-    c.body_words-end.ensures).whole))
+    (omega (
+      arith,
+      (blocks_laid (c.requires.0, c.requires.1) c.block_at-block.ensures c.transaction_numbers-behind.ensures
+          c.body_words-end.ensures).whole,
+    ))
 
 -- Where it lies.
 spans : (c : In-loop-at) → let at = c.loop-at.at in let span = c.block_at-block.result in
     let m = c.args.m in Spans (handler_start m c.loop-at.invariant.row) (handler_long m) at (at + (span.end - span.start))
 spans c =
-    omega (arith, c.loop-at.invariant.place,
-    (blocks_laid (c.requires.0, c.requires.1) c.block_at-block.ensures c.transaction_numbers-behind.ensures c.body_words-end.ensures).row)
+    omega (
+      arith,
+      c.loop-at.invariant.place,
+      (blocks_laid (c.requires.0, c.requires.1) c.block_at-block.ensures c.transaction_numbers-behind.ensures c.body_words-end.ensures).row,
+    )
 
 pub block_at-block-requires : goal.block_at-block-requires
 block_at-block-requires c = (omega arith, omega arith)
@@ -65,13 +78,21 @@ offset_bounds-body-ahead c = omega (arith, laid (goal.at.offset_bounds-body-ahea
 
 pub slice_bounds-span_bits-count : goal.slice_bounds-span_bits-count
 slice_bounds-span_bits-count c =
-    omega (arith, (laid (goal.at.slice_bounds-span_bits-count c).After-body_words-end).front, ends
-    (goal.at.slice_bounds-span_bits-count c).In-loop-at)
+    omega (
+      arith,
+      (laid (goal.at.slice_bounds-span_bits-count c).After-body_words-end).front,
+      ends
+          (goal.at.slice_bounds-span_bits-count c).In-loop-at,
+    )
 
 pub slice_bounds-span_bits-start : goal.slice_bounds-span_bits-start
 slice_bounds-span_bits-start c =
-    omega (arith, (laid (goal.at.slice_bounds-span_bits-start c).After-body_words-end).front, ends
-    (goal.at.slice_bounds-span_bits-start c).In-loop-at)
+    omega (
+      arith,
+      (laid (goal.at.slice_bounds-span_bits-start c).After-body_words-end).front,
+      ends
+          (goal.at.slice_bounds-span_bits-start c).In-loop-at,
+    )
 
 pub slice_bounds-span_bits-end : goal.slice_bounds-span_bits-end
 slice_bounds-span_bits-end c =
@@ -92,13 +113,19 @@ offset_bounds-body-at c = omega (arith, laid (goal.at.offset_bounds-body-at c).A
 
 pub slice_bounds-front_faults-end : goal.slice_bounds-front_faults-end
 slice_bounds-front_faults-end c =
-    omega (arith, (laid (goal.at.slice_bounds-front_faults-end c).After-body_words-end).row, ends
-    (goal.at.slice_bounds-front_faults-end c).In-loop-at)
+    omega (
+      arith,
+      (laid (goal.at.slice_bounds-front_faults-end c).After-body_words-end).row,
+      ends
+          (goal.at.slice_bounds-front_faults-end c).In-loop-at,
+    )
 
 pub front_faults-faults-requires : goal.front_faults-faults-requires
-front_faults-faults-requires c =
-    (lent_length (spans (goal.at.front_faults-faults-requires c).In-loop-at) _
-    (omega (arith, c.loop-at.invariant.place, ends (goal.at.front_faults-faults-requires c).In-loop-at)), omega arith)
+front_faults-faults-requires c = (
+  lent_length (spans (goal.at.front_faults-faults-requires c).In-loop-at) _
+      (omega (arith, c.loop-at.invariant.place, ends (goal.at.front_faults-faults-requires c).In-loop-at)),
+  omega arith,
+)
 
 pub overflow_add-faults : goal.overflow_add-faults
 overflow_add-faults c =

@@ -10,7 +10,7 @@ use Rattle.formed.proofs.blocks_seen.Given as goal
 abbrev pub invariant-loop-at : goal.invariant-loop-at
 invariant-loop-at l = Walked (cell_start l.m l.m) (handler_long l.m) l.n
     (λ k. Told 0 (λ i. NumbersFit l.m (handler_part l.m l.body i)) k l.bits × Gathered front_most
-        (λ i. GoodFront l.last l.m (handler_part l.m l.body i)) k l.faults) l.at
+    (λ i. GoodFront l.last l.m (handler_part l.m l.body i)) k l.faults) l.at
 
 abbrev pub decreases-loop-at : goal.decreases-loop-at
 decreases-loop-at l = l.end - l.at

@@ -17,8 +17,11 @@ laid c = cells_laid c.requires.0 c.cell_at-cell.ensures c.cell_at-middle.ensures
 ends : (c : In-loop-at) → let m = c.args.m in
     c.loop-at.at + cell_long m ≤ cell_start m (m - m / 2)
 ends c =
-    omega (arith, row_inside c.loop-at.invariant
-    (omega (arith, (cells_laid c.requires.0 c.cell_at-cell.ensures c.cell_at-middle.ensures c.block_at-block.ensures).rest)))
+    omega (
+      arith,
+      row_inside c.loop-at.invariant
+          (omega (arith, (cells_laid c.requires.0 c.cell_at-cell.ensures c.cell_at-middle.ensures c.block_at-block.ensures).rest)),
+    )
 
 pub cell_at-cell-requires : goal.cell_at-cell-requires
 cell_at-cell-requires c = (omega arith, omega arith)

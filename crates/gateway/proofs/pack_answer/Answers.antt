@@ -11,8 +11,11 @@ use Rattle.gateway.proofs.pack_answer.Goals as goal
 pub pack-requires : goal.pack-requires
 unfolding packed
 pack-requires c =
-    omega (arith, ap (λ n. n.kind) (c.outcome_numbers-numbers.ensures.replied ∙ ap (λ a. reply_numbers (reply_is a)) (sym c.in-Reported.is)),
-    kind_small (reply_is c.args.answer))
+    omega (
+      arith,
+      ap (λ n. n.kind) (c.outcome_numbers-numbers.ensures.replied ∙ ap (λ a. reply_numbers (reply_is a)) (sym c.in-Reported.is)),
+      kind_small (reply_is c.args.answer),
+    )
 
 pub returns-in-Reported : goal.returns-in-Reported
 unfolding packed

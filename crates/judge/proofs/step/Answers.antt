@@ -46,7 +46,7 @@ bounds-words-1 c = omega (arith, (ledger (goal.at.bounds-words-1 c).Else-not-is_
 pub pass-requires : goal.pass-requires
 pass-requires c = let args = c.args in
     let (s, asks, ready) = step_ready args.words.now args.handler args.code args.value (ledger (goal.at.pass-requires c).Else-not-is_ledger)
-        (passes (goal.at.pass-requires c).In-Passes) in
+    (passes (goal.at.pass-requires c).In-Passes) in
     (s, c.kind_of-kind.ensures.replied ∙ asks, ready)
 
 pub returns-in-Refuses : goal.returns-in-Refuses

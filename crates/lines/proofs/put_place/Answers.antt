@@ -29,7 +29,7 @@ unfolding line_text
 returns-in-Asked c =
     let code = c.in-Asked.code in
     let line = puts_both (puts_both c.put_start-started-in-Asked.ensures.puts c.put_number-coded.ensures.puts) c.put_text-apart-in-Asked.ensures in
-        record {
+    record {
       puts = rw c.in-Asked.is (puts_both (puts_both line c.put_answer-told.ensures.puts) c.put_text-in-Asked.ensures);
       upper_bound = omega (
         arith,

@@ -17,9 +17,11 @@ pub overflow_cast-cell_named : goal.overflow_cast-cell_named
 overflow_cast-cell_named c = record { fits = omega (arith, cell_small (goal.at.overflow_cast-cell_named c).After-cell_named) }
 
 pub put_column-placed-requires : goal.put_column-placed-requires
-put_column-placed-requires c =
-    (omega (arith, c.put_column-coded.ensures.upper_bound, c.put_step-named.ensures.value, c.requires.0), omega
-    (arith, cell_small (goal.at.put_column-placed-requires c).After-cell_named))
+put_column-placed-requires c = (
+  omega (arith, c.put_column-coded.ensures.upper_bound, c.put_step-named.ensures.value, c.requires.0),
+  omega
+      (arith, cell_small (goal.at.put_column-placed-requires c).After-cell_named),
+)
 
 pub returns : goal.returns
 returns c =

@@ -30,5 +30,5 @@ pub shape_of-words : goal.shape_of-words
 shape_of-words c = let pre = c.requires in
     length-set c.empty_row.new.words 2 _
     ∙ with_length _ _ _ c.empty_row.ensures
-        (omega (arith, pre.0.long, pre.0.range.handlers, pre.1, copied_length (goal.at.shape_of-words c).After-copy_row))
+    (omega (arith, pre.0.long, pre.0.range.handlers, pre.1, copied_length (goal.at.shape_of-words c).After-copy_row))
     ∙ copied_length (goal.at.shape_of-words c).After-copy_row

@@ -20,8 +20,10 @@ told c = c.is_marked-there.ensures ∙ marked_at _ _ c.requires.0
 
 pub overflow_add-result : goal.overflow_add-result
 overflow_add-result c =
-    record { fits = shifted_fits 64 _ _ (omega arith) (sym (told (goal.at.overflow_add-result c).After-is_marked-there) ∙ c.if-there.false)
-    c.ranges.marks.fits }
+    record {
+      fits = shifted_fits 64 _ _ (omega arith) (sym (told (goal.at.overflow_add-result c).After-is_marked-there) ∙ c.if-there.false)
+          c.ranges.marks.fits;
+    }
 
 pub returns-then-there : goal.returns-then-there
 returns-then-there c =

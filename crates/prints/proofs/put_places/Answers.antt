@@ -61,4 +61,4 @@ shape_of-buffer c = c.loop-place.invariant.3.puts.size
 pub returns : goal.returns
 returns c = let loop = c.loop-place in
     let all : c.args.places ≡ loop.place = omega arith in record
-        { places_put = underway_end all loop.invariant.3; end_bound = omega (arith, loop.invariant.1, all) }
+    { places_put = underway_end all loop.invariant.3; end_bound = omega (arith, loop.invariant.1, all) }

@@ -12,4 +12,4 @@ use Rattle.prints.proofs.put_places.Given as goal
 abbrev pub invariant-loop-place : goal.invariant-loop-place
 invariant-loop-place l = (l.place ≤ l.places) × (l.end ≤ l.at + l.place * 34) × (length l.words ≡ length l.initial.words)
     × Underway (player_is l.player) l.file l.places l.cursors.at l.place l.words
-        (places_from (player_is l.player) l.file l.places at_start 0 l.initial.words) l.at l.end l.initial.buffer l.buffer
+    (places_from (player_is l.player) l.file l.places at_start 0 l.initial.words) l.at l.end l.initial.buffer l.buffer

@@ -37,8 +37,12 @@ fits : (c : Else-words-c) → let args = c.args in
     2 + cell_start (cells_of args.words.now) args.c + cell_long (cells_of args.words.now) ≤ length args.words.now
 fits c =
     let words = c.args.words.now in
-    omega (arith, cell_fits (cells_of words) (handlers_of words) _ (inside c), well_long
-        ((tested _).0 (sym c.well_formed-2.ensures ∙ c.if-not-well_formed.false)))
+    omega (
+      arith,
+      cell_fits (cells_of words) (handlers_of words) _ (inside c),
+      well_long
+          ((tested _).0 (sym c.well_formed-2.ensures ∙ c.if-not-well_formed.false)),
+    )
 
 pub returns-then-not-well_formed : goal.returns-then-not-well_formed
 returns-then-not-well_formed c = end_malformed _ _ (sym c.well_formed-2.ensures ∙ c.if-not-well_formed.true)

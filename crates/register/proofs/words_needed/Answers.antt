@@ -28,6 +28,10 @@ body_words-requires c = omega (arith, (range_tested _ _).0 (ranged (goal.at.body
 
 pub overflow_add-result : goal.overflow_add-result
 overflow_add-result c = let args = c.args in
-    omega (arith, c.body_words.ensures, body_small args.m args.n
-        (omega (arith, (range_tested _ _).0 (ranged (goal.at.overflow_add-result c).Else-not-in_range)))
-        (omega (arith, (range_tested _ _).0 (ranged (goal.at.overflow_add-result c).Else-not-in_range))))
+    omega (
+      arith,
+      c.body_words.ensures,
+      body_small args.m args.n
+          (omega (arith, (range_tested _ _).0 (ranged (goal.at.overflow_add-result c).Else-not-in_range)))
+          (omega (arith, (range_tested _ _).0 (ranged (goal.at.overflow_add-result c).Else-not-in_range))),
+    )

@@ -32,9 +32,12 @@ returns-then-not-has_room c = row_short _ _ _ _ (formed (goal.at.returns-then-no
 pub take_steps-requires : goal.take_steps-requires
 take_steps-requires c = record {
   table_promise = c.plain_table-table.ensures;
-  well_formed =
-      ((tested _).0 (formed (goal.at.take_steps-requires c).Else-not-well_formed), omega arith, ltb-false _ _
-      (room (goal.at.take_steps-requires c).Else-not-has_room));
+  well_formed = (
+    (tested _).0 (formed (goal.at.take_steps-requires c).Else-not-well_formed),
+    omega arith,
+    ltb-false _ _
+        (room (goal.at.take_steps-requires c).Else-not-has_room),
+  );
 }
 
 pub returns : goal.returns

@@ -12,4 +12,4 @@ use Rattle.sheets.proofs.count_places.Given as goal
 abbrev pub invariant-loop-place : goal.invariant-loop-place
 invariant-loop-place l = (l.place ≤ l.places) × (length l.words ≡ length l.initial.words)
     × Underway l.file l.places l.cursors.at l.place l.words l.initial.sheet l.sheet
-        (places_from the_register l.file l.places at_start 0 l.initial.words).lines
+    (places_from the_register l.file l.places at_start 0 l.initial.words).lines

@@ -20,14 +20,28 @@ three_end c = omega (
 
 five_end : (c : After-put_count-spent) → c.put_count-spent.result ≤ c.args.at + 110
 five_end c =
-    omega (arith, c.put_named-named.ensures.upper_bound, c.put_count-begun.ensures.upper_bound, c.put_count-committed.ensures.upper_bound,
-    c.put_count-torn.ensures.upper_bound, c.put_count-overtaken.ensures.upper_bound, c.put_count-spent.ensures.upper_bound)
+    omega (
+      arith,
+      c.put_named-named.ensures.upper_bound,
+      c.put_count-begun.ensures.upper_bound,
+      c.put_count-committed.ensures.upper_bound,
+      c.put_count-torn.ensures.upper_bound,
+      c.put_count-overtaken.ensures.upper_bound,
+      c.put_count-spent.ensures.upper_bound,
+    )
 
 all_end : (c : After-put_count-given_up) → c.put_count-given_up.result ≤ c.args.at + 128
 all_end c =
-    omega (arith, c.put_named-named.ensures.upper_bound, c.put_count-begun.ensures.upper_bound, c.put_count-committed.ensures.upper_bound,
-    c.put_count-torn.ensures.upper_bound, c.put_count-overtaken.ensures.upper_bound, c.put_count-spent.ensures.upper_bound,
-    c.put_count-given_up.ensures.upper_bound)
+    omega (
+      arith,
+      c.put_named-named.ensures.upper_bound,
+      c.put_count-begun.ensures.upper_bound,
+      c.put_count-committed.ensures.upper_bound,
+      c.put_count-torn.ensures.upper_bound,
+      c.put_count-overtaken.ensures.upper_bound,
+      c.put_count-spent.ensures.upper_bound,
+      c.put_count-given_up.ensures.upper_bound,
+    )
 
 -- The whole line is put.
 row_put : (c : After-put_text) → let given = c.args in
@@ -48,10 +62,14 @@ row_put c =
     c.put_text.ensures
 
 pub put_count-spent-requires : goal.put_count-spent-requires
-put_count-spent-requires c =
-    (c.requires.1, omega arith, omega
-    (arith, three_end (goal.at.put_count-spent-requires c).After-put_count-torn, c.put_count-overtaken.ensures.upper_bound, c.requires.0), omega
-    arith)
+put_count-spent-requires c = (
+  c.requires.1,
+  omega arith,
+  omega
+      (arith, three_end (goal.at.put_count-spent-requires c).After-put_count-torn, c.put_count-overtaken.ensures.upper_bound, c.requires.0),
+  omega
+      arith,
+)
 
 pub put_count-given_up-requires : goal.put_count-given_up-requires
 put_count-given_up-requires c =

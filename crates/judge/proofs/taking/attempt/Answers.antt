@@ -14,9 +14,12 @@ returns-in-Cell c v = takes_overtaken c.requires.ready _ (asked (goal.at.returns
     c.handler_row-row.ensures c.empty_row.ensures
 
 pub note_commit-requires : goal.note_commit-requires
-note_commit-requires c = let pre = c.requires in
-    (pre.ready.ledger, pre.ready.handler, commit_room pre.ready pre.room
-        (asked (goal.at.note_commit-requires c).After-overtaken_cell ∙ ap found_is c.in_default.is))
+note_commit-requires c = let pre = c.requires in (
+  pre.ready.ledger,
+  pre.ready.handler,
+  commit_room pre.ready pre.room
+      (asked (goal.at.note_commit-requires c).After-overtaken_cell ∙ ap found_is c.in_default.is),
+)
 
 pub returns : goal.returns
 returns c v = takes_commit c.requires.ready (asked (goal.at.returns c).After-overtaken_cell ∙ ap found_is c.in_default.is) v c.note_commit.ensures

@@ -20,9 +20,15 @@ pub returns-then-is_too_many : goal.returns-then-is_too_many
 returns-then-is_too_many c s e = pass_stops _ _ s (asked (goal.at.returns-then-is_too_many c).After-is_too_many s e ∙ c.if-is_too_many.true)
 
 pub take-outcome-requires : goal.take-outcome-requires
-take-outcome-requires c = let (s, e, ready) = c.requires in
-    (s, e, record { ready = ready; room = has_room c.args.words.now c.args.handler s
-        (asked (goal.at.take-outcome-requires c).After-is_too_many s e ∙ c.if-is_too_many.false) })
+take-outcome-requires c = let (s, e, ready) = c.requires in (
+  s,
+  e,
+  record {
+    ready = ready;
+    room = has_room c.args.words.now c.args.handler s
+        (asked (goal.at.take-outcome-requires c).After-is_too_many s e ∙ c.if-is_too_many.false);
+  },
+)
 
 pub returns : goal.returns
 returns c s e = pass_takes _ _ s (asked (goal.at.returns c).After-is_too_many s e ∙ c.if-is_too_many.false) (c.take-outcome.ensures s e)

@@ -24,7 +24,7 @@ overflow_cast-script c = omega (arith, c.type_inv.script c.loop-at.at)
 pub returns-then-long-eq0 : goal.returns-then-long-eq0
 returns-then-long-eq0 c = let there = c.loop-at in
     sym (there.invariant.1 ∙ whole_unknown c.args.script.now there.at (omega arith) (takes (goal.at.returns-then-long-eq0 c).After-step_bytes-long)
-        c.if-long-eq0.true)
+    c.if-long-eq0.true)
 
 pub overflow_add-at : goal.overflow_add-at
 overflow_add-at c =
@@ -33,12 +33,12 @@ overflow_add-at c =
 pub returns-then-script-at : goal.returns-then-script-at
 returns-then-script-at c = let there = c.loop-at in
     sym (there.invariant.1 ∙ whole_cut c.args.script.now there.at (omega arith) (takes (goal.at.returns-then-script-at c).After-step_bytes-long)
-        c.if-long-eq0.false (omega arith))
+    c.if-long-eq0.false (omega arith))
 
 pub loop-at-preserved : goal.loop-at-preserved
 loop-at-preserved c = let there = c.loop-at in
     let behind = whole_next c.args.script.now there.at (omega arith) (takes (goal.at.loop-at-preserved c).After-step_bytes-long) c.if-long-eq0.false
-        (omega arith) in
+    (omega arith) in
     (omega arith, there.invariant.1 ∙ behind)
 
 pub returns : goal.returns

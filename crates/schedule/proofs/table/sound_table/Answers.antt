@@ -32,9 +32,12 @@ pub returns-then-offset-due : goal.returns-then-offset-due
 returns-then-offset-due c = not_sound_table (λ sound. omega (arith, sound.placed c.loop-k.k (omega arith)))
 
 pub loop-k-preserved : goal.loop-k-preserved
-loop-k-preserved c =
-    (omega arith, next (goal.at.loop-k-preserved c).After-short_at, below_more _ _ c.loop-k.invariant.2
-    (passed (goal.at.loop-k-preserved c).Else-offset-due))
+loop-k-preserved c = (
+  omega arith,
+  next (goal.at.loop-k-preserved c).After-short_at,
+  below_more _ _ c.loop-k.invariant.2
+      (passed (goal.at.loop-k-preserved c).Else-offset-due),
+)
 
 pub returns : goal.returns
 returns c = let all : c.loop-k.k ≡ c.args.entries = omega arith in

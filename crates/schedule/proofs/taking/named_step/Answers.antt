@@ -31,8 +31,8 @@ refuses c =
     let args = c.args in
     subst (FrontOf (left_of args.file.now args.cursors.at args.handler))
     c.in-Refuses.is ((let args =
-        c.args in subst (λ script. FrontOf (drop (cursor_of args.cursors.at args.handler) script) c.in_front.result) c.body-script.ensures
-        c.in_front.ensures))
+    c.args in subst (λ script. FrontOf (drop (cursor_of args.cursors.at args.handler) script) c.in_front.result) c.body-script.ensures
+    c.in_front.ensures))
 
 -- or a step.
 stands : (c : In-Stands) → let args = c.args in
@@ -41,8 +41,8 @@ stands c =
     let args = c.args in
     subst (FrontOf (left_of args.file.now args.cursors.at args.handler))
     c.in-Stands.is ((let args =
-        c.args in subst (λ script. FrontOf (drop (cursor_of args.cursors.at args.handler) script) c.in_front.result) c.body-script.ensures
-        c.in_front.ensures))
+    c.args in subst (λ script. FrontOf (drop (cursor_of args.cursors.at args.handler) script) c.in_front.result) c.body-script.ensures
+    c.in_front.ensures))
 
 -- The cursor behind the step is a place of the file.
 further : (c : In-Stands) → let args = c.args in

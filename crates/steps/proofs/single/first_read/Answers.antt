@@ -60,9 +60,12 @@ pub bounds-body-start : goal.bounds-body-start
 bounds-body-start c = omega (arith, lies (goal.at.bounds-body-start c).After-block_at-span)
 
 pub torn-requires : goal.torn-requires
-torn-requires c =
-    (read_among c.requires.ready.seated c.block_at-span.ensures.starts, omega (arith, lies (goal.at.torn-requires c).After-block_at-span), omega
-    (arith, lies (goal.at.torn-requires c).After-block_at-span))
+torn-requires c = (
+  read_among c.requires.ready.seated c.block_at-span.ensures.starts,
+  omega (arith, lies (goal.at.torn-requires c).After-block_at-span),
+  omega
+      (arith, lies (goal.at.torn-requires c).After-block_at-span),
+)
 
 pub offset_bounds-body-start-in-Cell : goal.offset_bounds-body-start-in-Cell
 offset_bounds-body-start-in-Cell c = omega (arith, lies (goal.at.offset_bounds-body-start-in-Cell c).After-block_at-span)

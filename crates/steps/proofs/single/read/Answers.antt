@@ -43,7 +43,7 @@ returns-then-has-2 c =
     let starts = c.block_at-span.ensures.starts in
     held_takes ready.seated.formed.good
     (sym (read_told (goal.at.returns-then-has-2 c).After-has-2) ∙ c.if-has-2.true)
-        (sym (written_told (goal.at.returns-then-has-2 c).After-has) ∙ c.if-has.false)
+    (sym (written_told (goal.at.returns-then-has-2 c).After-has) ∙ c.if-has.false)
     c.version_shows.ensures.replied
     (transaction_said ready.seated starts _ ready.cell c.transaction_numbers.ensures)
     (copy_said ready.seated starts _ ready.cell c.copies.ensures)

@@ -60,7 +60,7 @@ pub returns-in-Cell-spent : goal.returns-in-Cell-spent
 returns-in-Cell-spent c =
     rest_takes c.requires.seated c.block_at-span.ensures
     (try_spent _ _ _ _ (current (goal.at.returns-in-Cell-spent c).After-spent)
-        (sym (write_answer (goal.at.returns-in-Cell-spent c).After-spent) ∙ ap found_is c.in-Cell-spent.is)) c.rest-in-Cell-spent.ensures
+    (sym (write_answer (goal.at.returns-in-Cell-spent c).After-spent) ∙ ap found_is c.in-Cell-spent.is)) c.rest-in-Cell-spent.ensures
 
 pub offset_bounds-body-start : goal.offset_bounds-body-start
 offset_bounds-body-start c = omega (arith, lies (goal.at.offset_bounds-body-start c).After-block_at-span)

@@ -1,0 +1,13 @@
+-- What is written is the page.
+use Rattle.std.proofs.Common.{rules, ◌≡◌, ◌∙◌, length, subst}
+use Rattle.std.specs.Io.KnownBytes.{Appends}
+use Rattle.manual.specs.Page.{page_bytes}
+use Rattle.filters.proofs.Written.{text_in_front}
+use Rattle.codes.proofs.print_page.Goals as goal
+
+pub returns : goal.returns
+returns g c =
+    let promise = c.put_codes-long.ensures.codes_promise in
+    let room : page_bytes ≡ length c.put_codes-long.new.buffer = search rules in
+    let stands = text_in_front _ _ _ _ _ promise.replied promise.left c.put_codes-long.ensures.upper_bound (room ∙ c.put_codes-long.auto.buffer) in
+    subst (Appends _ _) stands (c.if-not-write_front.ensures (search rules))

@@ -1,0 +1,2 @@
+-- What is written of what was read.
+pub mod Written
