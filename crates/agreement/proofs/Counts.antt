@@ -1,9 +1,9 @@
 -- After each reply of the judge there is one commit more where it reports one, and else there are as many.
+use Rattle.std.specs.Prelude.{if◌then◌else◌}
 use Prim.Native.Nat.{ℕ, suc}
 use mathlib.Core.Path.{◌≡◌, refl, sym, ap, ◌∙◌}
 use mathlib.Core.List.{List}
 use lib.ListN.{length}
-use Rattle.rules.specs.steps.Tables.{if◌then◌else◌}
 use Rattle.rules.specs.steps.Codes.{Step, begin, try, give_up, read, write, plain_sheet}
 use Rattle.rules.specs.steps.Replies.{Outcome, ok, shows, committed, aborted, Reply}
 use Rattle.rules.specs.history.History.{History, note, note_ok, note_shown, note_commit, note_abort, doing, ended, note_reply}

@@ -1,8 +1,7 @@
 -- On every schedule that is not refused, the judge's lines are the runner's up to a 65th commit: there stands 33, and nothing comes
 -- after. If there is none, the judge shows the same cells at the end.
-use Rattle.std.specs.Prelude.{ℕ, zero, suc, ◌<◌, ◌≡◌, false, List, [], ◌∷◌, length, ltb}
+use Rattle.std.specs.Prelude.{ℕ, zero, suc, ◌<◌, ◌≡◌, false, List, [], ◌∷◌, length, ltb, if◌then◌else◌}
 use Rattle.std.proofs.Math.Option.{some}
-use Rattle.rules.specs.steps.Tables.{if◌then◌else◌}
 use Rattle.rules.specs.steps.Replies.{too_many_commits, Reply, ready}
 use Rattle.replies.specs.Ends.{cell_line}
 use Rattle.ledger.specs.Promises.{reports_commit, LedgerPromise}

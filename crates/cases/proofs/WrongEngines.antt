@@ -1,11 +1,12 @@
 -- docs/RULES.md, "How tight the promises are": engines that no edit of one operand makes, each shut out by the promise of a step.
+use Rattle.std.specs.Prelude.{if◌then◌else◌}
 use Prim.Native.Nat.{ℕ}
 use mathlib.Core.Path.{◌≡◌, refl, sym, ap, ◌∙◌}
 use mathlib.Core.List.{List, [], ◌∷◌}
 use native.Mathlib.Omega.{arith}
 use lib.Dec.{ltb}
 use lib.ListN.{get_or}
-use Rattle.rules.specs.steps.Tables.{if◌then◌else◌, put, or_else, lowest, some_below}
+use Rattle.rules.specs.steps.Tables.{put, or_else, lowest, some_below}
 use Rattle.rules.specs.steps.Codes.{plain_sheet}
 use Rattle.rules.specs.steps.Replies.{Reason, Outcome, ok, committed, aborted, Refusal, Report, Reply, reported, refused, outcome_numbers, reply_numbers}
 use Rattle.rules.specs.steps.Register.{Register, Handler, Cell, with_handler, idle}

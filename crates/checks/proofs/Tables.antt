@@ -1,5 +1,6 @@
 -- THE TABLE OF A SHEET, for any code sheet that fits one: every code has its entry, and the entry says what the sheet does. And the plain
 -- sheet, which is by ranges, fits one.
+use Rattle.std.specs.Prelude.{if◌then◌else◌}
 use Prim.Native.Nat.{ℕ, zero, suc, ◌+◌, ◌*◌, ◌/◌, ◌%◌, ◌≤◌, ◌<◌}
 use mathlib.Core.Path.{◌≡◌, refl, sym, ap, ◌∙◌}
 use mathlib.Core.Bool.{Bool, true, false}
@@ -10,7 +11,6 @@ use lib.Dec.{eqb, leb, ltb}
 use lib.ListN.{length, get_or, get_or-eq_default}
 use borrow.Author.Tests.{leb-true, ltb-true, ltb-false, ne_eqb, le-leb, lt-leb}
 use Rattle.rules.specs.steps.Codes.{begin, try, give_up, read, write, Kind, known, unknown, Sheet, within, plain_sheet}
-use Rattle.rules.specs.steps.Tables.{if◌then◌else◌}
 use Rattle.rules.proofs.steps.Tables.{by, and_right}
 use Rattle.checks.specs.Entries.{cell_named, entry_of, entries_from, table_of, numbered, entry_says}
 use Rattle.checks.specs.Promises.{TablePromise, LookupPromise, EntryPromise, SaysPromise}

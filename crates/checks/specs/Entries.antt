@@ -1,7 +1,6 @@
 -- A CODE SHEET AS A TABLE: for each of the 256 step codes an entry of one byte, which gives the number of the kind that the code stands for
 -- and the cell that it names. It is said of any code sheet.
-use Rattle.std.specs.Prelude.{ℕ, zero, suc, ◌+◌, ◌*◌, ◌/◌, ◌%◌, List, [], ◌∷◌, eqb}
-use Rattle.rules.specs.steps.Tables.{if◌then◌else◌}
+use Rattle.std.specs.Prelude.{ℕ, zero, suc, ◌+◌, ◌*◌, ◌/◌, ◌%◌, List, [], ◌∷◌, eqb, if◌then◌else◌}
 use Rattle.rules.specs.steps.Codes.{begin, try, give_up, read, write, Kind, known, unknown, Sheet}
 
 -- The number of a kind.

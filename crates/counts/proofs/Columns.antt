@@ -1,4 +1,5 @@
 -- The columns of a handler's counts: where a count that is raised stands, and what is shown of all six when it is shown of each.
+use Rattle.std.specs.Prelude.{if◌then◌else◌}
 use Prim.Native.Nat.{ℕ, zero, suc, ◌≤◌, ◌<◌}
 use mathlib.Core.Path.{refl}
 use mathlib.Core.Bool.{Bool, true, false}
@@ -6,7 +7,6 @@ use mathlib.Core.Option.{none, some}
 use native.Mathlib.Omega.{arith}
 use lib.Dec.{eqb}
 use borrow.Author.Tests.{ne_eqb}
-use Rattle.rules.specs.steps.Tables.{if◌then◌else◌}
 use Rattle.counts.specs.Counting.{Count, column, is_in}
 use Rattle.counts.specs.Rows.{RaisedAt, AddedAt}
 

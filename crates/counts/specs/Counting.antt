@@ -1,8 +1,7 @@
 -- WHAT A DUTY SHEET COUNTS of a handler: its transactions begun, committed, and aborted by each reason; and which reply raises which
 -- count. A reason added later is one line of each table here, and one field of the code's `Counts`.
-use Rattle.std.specs.Prelude.{ℕ, Bool, false, eqb}
+use Rattle.std.specs.Prelude.{ℕ, Bool, false, eqb, if◌then◌else◌}
 use Rattle.std.proofs.Math.Option.{Option, none, some}
-use Rattle.rules.specs.steps.Tables.{if◌then◌else◌}
 use Rattle.rules.specs.steps.Codes.{Kind, plain_sheet}
 use Rattle.rules.specs.steps.Checks.{is_begin}
 use Rattle.rules.specs.steps.Replies as Rules

@@ -1,8 +1,7 @@
 -- One handler's counts as the code holds them, column by column: the column that is raised, and counts brought up to date.
 -- For internal contracts alone.
-use Rattle.std.specs.Prelude.{ℕ, ◌+◌, ◌<◌, ◌≡◌, List, [], ◌∷◌, get_or, eqb}
+use Rattle.std.specs.Prelude.{ℕ, ◌+◌, ◌<◌, ◌≡◌, List, [], ◌∷◌, get_or, eqb, if◌then◌else◌}
 use Rattle.std.proofs.Math.Option.{Option}
-use Rattle.rules.specs.steps.Tables.{if◌then◌else◌}
 use Rattle.counts.specs.declared.Counts.{Counts}
 use Rattle.counts.specs.Counting.{Count, is_in, adds}
 

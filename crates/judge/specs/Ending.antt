@@ -1,8 +1,7 @@
 -- What the judge shows of a cell at the end: what all commits leave there, and how many of them wrote it.
-use Rattle.std.specs.Prelude.{ℕ, ◌&&◌, List, ltb}
+use Rattle.std.specs.Prelude.{ℕ, ◌&&◌, List, ltb, if◌then◌else◌}
 use Rattle.std.proofs.Math.Option.{Option, none, some}
 use Rattle.rules.specs.Promise.{Due, Promise, answering}
-use Rattle.rules.specs.steps.Tables.{if◌then◌else◌}
 use Rattle.rules.specs.history.History.{every_commit}
 use Rattle.rules.specs.history.Replay.{replay}
 use Rattle.rules.specs.demand.Judge.{version_count}

@@ -1,7 +1,6 @@
 -- Rows of words: a table as a row, rows one after another, a part of a row, words that are the same but for one part, and a table read
 -- off a row.
-use Rattle.std.specs.Prelude.{ℕ, zero, suc, ◌+◌, ◌≤◌, ◌<◌, ◌≡◌, List, [], ◌∷◌, ◌++◌, length, get_or, take, drop, ltb}
-use Rattle.rules.specs.steps.Tables.{if◌then◌else◌}
+use Rattle.std.specs.Prelude.{ℕ, zero, suc, ◌+◌, ◌≤◌, ◌<◌, ◌≡◌, List, [], ◌∷◌, ◌++◌, length, get_or, take, drop, ltb, if◌then◌else◌}
 
 -- The first m entries of a table, in order.
 unfoldable pub row : ℕ → (ℕ → ℕ) → List ℕ

@@ -1,4 +1,5 @@
 -- What an entry's deeds are, cell by cell: which cells are read, which reads pass a test, what was written, what the copies show, and what is left on a table.
+use Rattle.std.specs.Prelude.{if◌then◌else◌}
 use Prim.Native.Nat.{ℕ, zero, suc, ◌-◌, ◌<◌}
 use native.Mathlib.Omega.{arith}
 use native.Mathlib.Numerals.{sub-one}
@@ -7,7 +8,7 @@ use mathlib.Core.Bool.{Bool, true, false, ◌&&◌, ◌||◌, and-true, or-true}
 use mathlib.Core.List.{List}
 use lib.Dec.{eqb, ltb}
 use borrow.Author.Tests.{ltb-true, lt-ltb, le-ltb, eqb-true, eqb-false, eq-eqb, ne_eqb}
-use Rattle.rules.specs.steps.Tables.{if◌then◌else◌, put, lowest, some_below}
+use Rattle.rules.specs.steps.Tables.{put, lowest, some_below}
 use Rattle.rules.specs.steps.Replies.{Content, unset, value}
 use Rattle.rules.specs.steps.Figure.{version_shows}
 use Rattle.rules.specs.history.History.{Deed, some_look, has_read, has_written}

@@ -1,5 +1,6 @@
 -- Laws of the versions of one cell, from what the rows of the commits note: who wrote the present one, how many there are, what the
 -- present one shows, and whether there is a later one.
+use Rattle.std.specs.Prelude.{if◌then◌else◌}
 use Prim.Native.Nat.{ℕ, zero, suc, ◌+◌, ◌<◌}
 use native.Mathlib.Omega.{arith}
 use native.Mathlib.Numerals.{add-one}
@@ -8,7 +9,7 @@ use mathlib.Core.Bool.{Bool, true, false, ◌&&◌}
 use mathlib.Core.List.{List}
 use lib.Dec.{ltb}
 use borrow.Author.Tests.{lt-ltb}
-use Rattle.rules.specs.steps.Tables.{if◌then◌else◌, lowest, some_below}
+use Rattle.rules.specs.steps.Tables.{lowest, some_below}
 use Rattle.rules.specs.steps.Replies.{Content, value}
 use Rattle.rules.specs.steps.Figure.{version_shows}
 use Rattle.rules.specs.history.History.{has_written, writer_among, writer, every_commit}

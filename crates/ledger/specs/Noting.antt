@@ -1,6 +1,6 @@
 -- What the judge notes in its words: as the rules note a history, one entry for one transaction.
-use Rattle.std.specs.Prelude.{ℕ, suc, true, ◌||◌, List, set}
-use Rattle.rules.specs.steps.Tables.{if◌then◌else◌, put}
+use Rattle.std.specs.Prelude.{ℕ, suc, true, ◌||◌, List, set, if◌then◌else◌}
+use Rattle.rules.specs.steps.Tables.{put}
 use Rattle.rules.specs.steps.Codes.{Step, begin, try, give_up, read, write, Kind, known, unknown}
 use Rattle.rules.specs.steps.Replies.{Content, unset, value, Outcome, ok, shows, committed, aborted, Reply, reported}
 use Rattle.rules.specs.steps.Register.{no_cells, zeros}

@@ -1,9 +1,8 @@
 -- What the judge's opening and its steps promise, for all words. Each reply is what the history tells that the words say, by the
 -- rules' own definitions.
-use Rattle.std.specs.Prelude.{ℕ, Bool, true, false, ◌&&◌, List, ◌∷◌, ◌++◌, length, drop, leb}
+use Rattle.std.specs.Prelude.{ℕ, Bool, true, false, ◌&&◌, List, ◌∷◌, ◌++◌, length, drop, leb, if◌then◌else◌}
 use Rattle.std.proofs.Math.Option.{Option, none, some}
 use Rattle.rules.specs.Promise.{Due, Promise}
-use Rattle.rules.specs.steps.Tables.{if◌then◌else◌}
 use Rattle.rules.specs.steps.Codes.{plain_sheet}
 use Rattle.rules.specs.steps.Replies.{ok, shows, committed, aborted, Outcome, Refusal, not_well_formed, too_many_commits, Reply, reported, Opening}
 use Rattle.rules.specs.steps.Register.{zeros}

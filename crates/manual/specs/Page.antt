@@ -1,7 +1,6 @@
 -- THE PAGE OF STEP CODES, as the fitters' manual prints it: a heading, and a row for each of the 256 codes with the step that it stands for
 -- and the cell that it names. It is said of any code sheet.
-use Rattle.std.specs.Prelude.{ℕ, List, [], ◌∷◌, ◌++◌, ltb}
-use Rattle.rules.specs.steps.Tables.{if◌then◌else◌}
+use Rattle.std.specs.Prelude.{ℕ, List, [], ◌∷◌, ◌++◌, ltb, if◌then◌else◌}
 use Rattle.rules.specs.steps.Codes.{begin, try, give_up, read, write, Kind, known, unknown, Sheet}
 use Rattle.checks.specs.Entries.{cell_named}
 use Rattle.text.specs.Bytes.{ascii, newline, written, decimal, in_turn}

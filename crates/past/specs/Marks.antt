@@ -1,8 +1,7 @@
 -- For internal contracts alone: what our own functions are called with and leave. Nothing here need be believed.
 -- Marks: a set of commits in one word of 64 bits, bit k for the commit at place k + 1; and the pasts that are asked for, as the
 -- rules define them of the commits that the judge's words say.
-use Rattle.std.specs.Prelude.{ℕ, zero, suc, ◌≡◌, Bool, true, false, ◌||◌, List, eqb, leb}
-use Rattle.rules.specs.steps.Tables.{if◌then◌else◌}
+use Rattle.std.specs.Prelude.{ℕ, zero, suc, ◌≡◌, Bool, true, false, ◌||◌, List, eqb, leb, if◌then◌else◌}
 use Rattle.rules.specs.history.Past.{in_past, up_to}
 use Rattle.layout.specs.Bits.{has_bit}
 use Rattle.ledger.specs.Entries.{Entry}

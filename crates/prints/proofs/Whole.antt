@@ -1,4 +1,5 @@
 -- What is put place by place is what is printed by the rules: with the register all of it, with the judge up to a 65th commit.
+use Rattle.std.specs.Prelude.{if◌then◌else◌}
 use Prim.Native.Nat.{ℕ, zero, suc, ◌+◌, ◌<◌, ◌≤◌}
 use native.Mathlib.Omega.{arith}
 use mathlib.Core.Path.{◌≡◌, refl, sym, ap, ap₂, ◌∙◌}
@@ -10,7 +11,6 @@ use lib.Dec.{ltb}
 use borrow.Author.Tests.{lt-ltb}
 use Rattle.rules.specs.Promise.{Promise}
 use Rattle.rules.specs.steps.Replies.{Refusal, ready}
-use Rattle.rules.specs.steps.Tables.{if◌then◌else◌}
 use Rattle.rules.proofs.steps.Tables.{by, found}
 use Rattle.layout.specs.Places.{body_of}
 use Rattle.layout.specs.View.{view}

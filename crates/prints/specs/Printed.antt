@@ -1,8 +1,7 @@
 -- EVERYTHING THAT IS PRINTED OF A FILE, for all bytes: by the runner, and by the judge, which stops at a 65th commit. And what it
 -- means to print it into a lent buffer.
-use Rattle.std.specs.Prelude.{ℕ, List, [], ◌++◌, ltb}
+use Rattle.std.specs.Prelude.{ℕ, List, [], ◌++◌, ltb, if◌then◌else◌}
 use Rattle.rules.specs.Promise.{Due, Promise}
-use Rattle.rules.specs.steps.Tables.{if◌then◌else◌}
 use Rattle.rules.specs.steps.Register.{Register}
 use Rattle.replies.specs.Ends.{cell_line}
 use Rattle.text.specs.Bytes.{in_turn}

@@ -1,8 +1,7 @@
 -- What the question for a register's length promises, for all m and n.
-use Rattle.std.specs.Prelude.{ℕ}
+use Rattle.std.specs.Prelude.{ℕ, if◌then◌else◌}
 use Rattle.std.proofs.Math.Option.{Option, none, some}
 use Rattle.rules.specs.Promise.{Due, Promise, answering}
-use Rattle.rules.specs.steps.Tables.{if◌then◌else◌}
 use Rattle.rules.specs.steps.Checks.{in_range}
 use Rattle.layout.specs.Places.{size}
 

@@ -1,8 +1,7 @@
 -- What is shown of a cell at the end of a run: what it holds, and its own number.
-use Rattle.std.specs.Prelude.{ℕ, ◌&&◌, List, ltb}
+use Rattle.std.specs.Prelude.{ℕ, ◌&&◌, List, ltb, if◌then◌else◌}
 use Rattle.std.proofs.Math.Option.{Option, none, some}
 use Rattle.rules.specs.Promise.{Due, Promise, answering}
-use Rattle.rules.specs.steps.Tables.{if◌then◌else◌}
 use Rattle.layout.specs.Places.{cells_of}
 use Rattle.layout.specs.View.{viewed}
 use Rattle.layout.specs.WellFormed.{is_well_formed}

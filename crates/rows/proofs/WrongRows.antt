@@ -1,5 +1,6 @@
 -- A row with every word, computed by the definitions: begin, a code that is no step, a write, a read, and a step that is cut short, of one
 -- cell and one handler. Rows that no edit of one operand makes are shut out by it: see "Wrong rows".
+use Rattle.std.specs.Prelude.{if◌then◌else◌}
 use Prim.Native.Nat.{ℕ}
 use mathlib.Core.Path.{◌≡◌, refl, sym, ap, ◌∙◌}
 use mathlib.Core.List.{List, [], ◌∷◌, ◌++◌}
@@ -7,7 +8,7 @@ use mathlib.Core.Option.{Option, none}
 use native.Mathlib.Omega.{arith}
 use lib.Dec.{eqb}
 use lib.ListN.{get_or, replicate}
-use Rattle.rules.specs.steps.Tables.{if◌then◌else◌, put, or_else, lowest, some_below}
+use Rattle.rules.specs.steps.Tables.{put, or_else, lowest, some_below}
 use Rattle.rules.specs.steps.Codes.{plain_sheet}
 use Rattle.rules.specs.steps.Replies.{Refusal, reply_numbers}
 use Rattle.rules.specs.steps.Register.{with_handler, idle}

@@ -1,8 +1,8 @@
 -- The run of a file by the rules: its lines, and the register at the end. Scripts are lists of steps here; ByPlaces.antt says the
 -- same of bytes and words.
-use Rattle.std.specs.Prelude.{ℕ, ◌+◌, true, List, [], ◌∷◌, leb}
+use Rattle.std.specs.Prelude.{ℕ, ◌+◌, true, List, [], ◌∷◌, leb, if◌then◌else◌}
 use Rattle.std.proofs.Math.Option.{Option, none, some}
-use Rattle.rules.specs.steps.Tables.{if◌then◌else◌, put}
+use Rattle.rules.specs.steps.Tables.{put}
 use Rattle.rules.specs.steps.Replies.{Refusal, no_handler, used_up}
 use Rattle.rules.specs.steps.Register.{Register, fresh}
 use Rattle.rules.specs.steps.Turn.{turn}

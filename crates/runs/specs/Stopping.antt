@@ -1,8 +1,8 @@
 -- Where a run stops: at the line of a step that is refused with 33, as only the judge refuses one.
-use Rattle.std.specs.Prelude.{ℕ, Bool, false, ◌||◌, List, [], ◌∷◌, eqb}
+use Rattle.std.specs.Prelude.{ℕ, Bool, false, ◌||◌, List, [], ◌∷◌, eqb, if◌then◌else◌}
 use Rattle.std.proofs.Math.Option.{Option, none, some}
 use Rattle.rules.specs.Promise.{Promise, answering}
-use Rattle.rules.specs.steps.Tables.{if◌then◌else◌, is_found}
+use Rattle.rules.specs.steps.Tables.{is_found}
 use Rattle.rules.specs.steps.Replies.{refusal_number, Reply, reported}
 use Rattle.lines.specs.Lines.{Line, line_is}
 use Rattle.lines.specs.declared.Shown.{Shown}

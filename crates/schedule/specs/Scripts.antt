@@ -1,7 +1,7 @@
 -- Scripts: a row of step codes, each write code followed by four bytes of value, read as a list of steps.
-use Rattle.std.specs.Prelude.{ℕ, zero, suc, Bool, List, [], ◌∷◌}
+use Rattle.std.specs.Prelude.{ℕ, zero, suc, Bool, List, [], ◌∷◌, if◌then◌else◌}
 use Rattle.std.proofs.Math.Option.{Option, none, some}
-use Rattle.rules.specs.steps.Tables.{if◌then◌else◌, is_found}
+use Rattle.rules.specs.steps.Tables.{is_found}
 use Rattle.rules.specs.steps.Codes.{begin, try, give_up, read, write, Kind, known, unknown, plain_sheet}
 use Rattle.rules.specs.steps.Checks.{is_unknown}
 use Rattle.schedule.specs.Bytes.{byte_at, long_at}

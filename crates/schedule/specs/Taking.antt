@@ -1,7 +1,6 @@
 -- The next step at an order place: an order byte names the handler whose next step is taken. Order: 11, 32, then the step.
-use Rattle.std.specs.Prelude.{ℕ, ◌+◌, Bool, ◌||◌, List, [], ◌∷◌, leb, ltb, length, get_or, set, drop, replicate}
+use Rattle.std.specs.Prelude.{ℕ, ◌+◌, Bool, ◌||◌, List, [], ◌∷◌, leb, ltb, length, get_or, set, drop, replicate, if◌then◌else◌}
 use Rattle.std.proofs.Math.Option.{Option, none, some}
-use Rattle.rules.specs.steps.Tables.{if◌then◌else◌}
 use Rattle.rules.specs.steps.Codes.{plain_sheet}
 use Rattle.rules.specs.Promise.{Due, Promise, answering}
 use Rattle.rules.specs.steps.Replies.{Refusal, bad_file, no_handler, used_up, unknown_step}

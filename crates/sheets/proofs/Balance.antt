@@ -1,5 +1,6 @@
 -- The balance of a run: at every step, whatever is asked for, what was begun and what was open before comes to what was ended and what is
 -- open afterwards; so it does over all order bytes of a file.
+use Rattle.std.specs.Prelude.{if◌then◌else◌}
 use Prim.Native.Nat.{ℕ, ◌+◌}
 use native.Mathlib.Omega.{arith}
 use mathlib.Core.Path.{◌≡◌, refl, sym, ap}
@@ -7,7 +8,7 @@ use mathlib.Core.Bool.{Bool, true}
 use mathlib.Core.List.{List, [], ◌∷◌}
 use lib.Dec.{eqb, leb}
 use borrow.Author.Tests.{eqb-true, eqb-false}
-use Rattle.rules.specs.steps.Tables.{if◌then◌else◌, put}
+use Rattle.rules.specs.steps.Tables.{put}
 use Rattle.rules.specs.steps.Codes.{Step, begin, try, give_up, read, write, known}
 use Rattle.rules.specs.steps.Replies.{Refusal, no_handler, used_up}
 use Rattle.rules.specs.steps.Register.{Setting, Cell, Handler, Register, has_open, with_handler, idle, fresh}

@@ -1,8 +1,7 @@
 -- WHAT A SHEET OVER MANY FILES SAYS, claimed for every list of files: each count is the number of such replies in the runs of the files
 -- that were not refused; a refused file adds nothing; nothing wraps; and what was begun is committed, aborted or still open.
-use Rattle.std.specs.Prelude.{ℕ, ◌+◌, ◌^◌, ◌≤◌, ◌<◌, ◌≡◌, List, [], ◌∷◌, length}
+use Rattle.std.specs.Prelude.{ℕ, ◌+◌, ◌^◌, ◌≤◌, ◌<◌, ◌≡◌, List, [], ◌∷◌, length, if◌then◌else◌}
 use Rattle.std.proofs.Math.Option.{Option, none, some}
-use Rattle.rules.specs.steps.Tables.{if◌then◌else◌}
 use Rattle.rules.specs.steps.Replies.{Refusal}
 use Rattle.rules.specs.steps.Register.{has_open}
 use Rattle.layout.specs.Rows.{row}

@@ -1,9 +1,9 @@
 -- THE DUTY SHEET: for each of 16 handlers a row of counts, kept in words that the caller lends. What the lines of a run add to it, when
 -- a file is refused, and what adding a file comes to, for all words and all files.
-use Rattle.std.specs.Prelude.{ℕ, ◌+◌, ◌*◌, Bool, ◌&&◌, List, [], ◌∷◌, ◌++◌, length, get_or, drop, eqb, ltb}
+use Rattle.std.specs.Prelude.{ℕ, ◌+◌, ◌*◌, Bool, ◌&&◌, List, [], ◌∷◌, ◌++◌, length, get_or, drop, eqb, ltb, if◌then◌else◌}
 use Rattle.std.proofs.Math.Option.{Option, none, some}
 use Rattle.rules.specs.Promise.{Due, Promise}
-use Rattle.rules.specs.steps.Tables.{if◌then◌else◌, some_below}
+use Rattle.rules.specs.steps.Tables.{some_below}
 use Rattle.rules.specs.steps.Replies.{Refusal, too_short, sheet_full, Reply}
 use Rattle.rules.specs.steps.Checks.{Check, ◌when◌, first_hit}
 use Rattle.layout.specs.Rows.{row, rows}

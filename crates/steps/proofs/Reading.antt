@@ -1,4 +1,5 @@
 -- A read by the rules: what is shown and nothing changed, or the first read with its outcome and its handler.
+use Rattle.std.specs.Prelude.{if◌then◌else◌}
 use Prim.Native.Nat.{ℕ, max}
 use native.Mathlib.Omega.{arith}
 use mathlib.Core.Path.{◌≡◌, sym, ap, ap₂, ◌∙◌, fun_ext}
@@ -9,7 +10,7 @@ use lib.Dec.{eqb, ltb}
 use borrow.Author.Tests.{eqb-true, eqb-false, le-ltb, ltb-true, ltb-false}
 use Rattle.rules.specs.steps.Codes.{read}
 use Rattle.rules.specs.steps.Replies.{Content, torn, value, shows}
-use Rattle.rules.specs.steps.Tables.{if◌then◌else◌, put}
+use Rattle.rules.specs.steps.Tables.{put}
 use Rattle.rules.specs.steps.Register.{Setting, Cell, Handler, Register, with_handler}
 use Rattle.rules.specs.steps.Checks.{first_hit}
 use Rattle.rules.specs.steps.Figure.{joined, taken, version_shows, cell_shows, shown}

@@ -1,5 +1,6 @@
 -- A row of words as a loop over the cells of a set changes it: the words of the cells that are done are those of a table, and the others as
 -- before. So the numbers of a set's cells are raised.
+use Rattle.std.specs.Prelude.{if◌then◌else◌}
 use Prim.Native.Nat.{ℕ, ◌+◌, ◌*◌, ◌≤◌, ◌<◌}
 use mathlib.Core.Path.{◌≡◌, refl, ◌∙◌, subst}
 use mathlib.Core.Bool.{Bool, true, false}
@@ -9,7 +10,7 @@ use lib.Dec.{eqb}
 use lib.ListN.{length, get_or, set, length-set}
 use lib.Seq.{get_or-set_same, get_or-set_other}
 use borrow.Author.Tests.{eqb-true, eqb-false}
-use Rattle.rules.specs.steps.Tables.{if◌then◌else◌, put}
+use Rattle.rules.specs.steps.Tables.{put}
 use Rattle.rules.proofs.steps.Tables.{by}
 use Rattle.layout.specs.Bits.{has_bit}
 use Rattle.layout.specs.Places.{cell_long, own_at}

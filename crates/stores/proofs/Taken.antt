@@ -1,5 +1,6 @@
 -- The cells of a set that a loop has taken: those of the set that are not left. None is taken at first, each turn takes one more, and
 -- when none is left they are the set.
+use Rattle.std.specs.Prelude.{if◌then◌else◌}
 use Prim.Native.Nat.{ℕ, ◌<◌}
 use mathlib.Core.Path.{◌≡◌, refl, sym, ◌∙◌, fun_ext}
 use mathlib.Core.Bool.{Bool, true, false, not, ◌&&◌}
@@ -7,7 +8,7 @@ use mathlib.Core.List.{List}
 use native.Mathlib.Omega.{arith}
 use lib.Dec.{eqb, ltb}
 use borrow.Author.Tests.{ltb-true, ltb-false, eqb-true}
-use Rattle.rules.specs.steps.Tables.{if◌then◌else◌, put}
+use Rattle.rules.specs.steps.Tables.{put}
 use Rattle.rules.proofs.steps.Tables.{by, both_ways, and_left}
 use Rattle.layout.specs.Bits.{has_bit}
 use Rattle.layout.proofs.Bits.{no_bit_from}

@@ -1,8 +1,7 @@
 -- For internal contracts alone: what our own functions are called with and leave. Nothing here need be believed.
 -- What a commit does to the words of a body: the numbers of the written cells are raised in the transaction's row, and then each
 -- written cell takes its copy and that row.
-use Rattle.std.specs.Prelude.{ℕ, ◌+◌, ◌*◌, ◌≤◌, ◌<◌, ◌≡◌, Bool, List, length, get_or}
-use Rattle.rules.specs.steps.Tables.{if◌then◌else◌}
+use Rattle.std.specs.Prelude.{ℕ, ◌+◌, ◌*◌, ◌≤◌, ◌<◌, ◌≡◌, Bool, List, length, get_or, if◌then◌else◌}
 use Rattle.rules.specs.steps.Register.{Register}
 use Rattle.layout.specs.Bits.{has_bit}
 use Rattle.layout.specs.Places.{cell_long, own_at}

@@ -1,8 +1,7 @@
 -- Texts as bytes: letters in ASCII, lines, numbers in decimal, and texts one after another.
-use Rattle.std.specs.Prelude.{ℕ, zero, suc, ◌+◌, ◌/◌, ◌%◌, List, [], ◌∷◌, ◌++◌, ltb}
+use Rattle.std.specs.Prelude.{ℕ, zero, suc, ◌+◌, ◌/◌, ◌%◌, List, [], ◌∷◌, ◌++◌, ltb, if◌then◌else◌}
 use Prim.Native.Char.{code}
 use Prim.Native.String.{String, [] as empty, ◌∷◌ as ◌before◌}
-use Rattle.rules.specs.steps.Tables.{if◌then◌else◌}
 
 -- The bytes of a text, a letter each.
 abbrev pub ascii : String → List ℕ

@@ -1,4 +1,5 @@
 -- Laws of sources: who can have written a version that was read, and what a later version and a stale one are by number.
+use Rattle.std.specs.Prelude.{if◌then◌else◌}
 use Prim.Native.Nat.{ℕ, suc, ◌≤◌}
 use native.Mathlib.Omega.{arith}
 use mathlib.Core.Path.{◌≡◌, refl, sym, ap, ◌∙◌}
@@ -7,7 +8,6 @@ use mathlib.Core.List.{List, [], ◌∷◌}
 use lib.ListN.{length}
 use lib.Dec.{eqb, ltb}
 use borrow.Author.Tests.{eqb-true, eqb-false, eq-eqb, ne_eqb, lt-ltb, le-ltb}
-use Rattle.rules.specs.steps.Tables.{if◌then◌else◌}
 use Rattle.rules.specs.history.History.{Deed, Commit, has_read, has_written, place_after, writer_among, every_commit, writer}
 use Rattle.rules.specs.history.Past.{up_to, later, outdated}
 use Rattle.rules.specs.demand.Judge.{version_count, number_among, stale}

@@ -1,4 +1,5 @@
 -- Laws of versions by number: the number of the latest version that a set of commits holds, and who wrote it.
+use Rattle.std.specs.Prelude.{if◌then◌else◌}
 use Prim.Native.Nat.{ℕ, suc, max, ◌≤◌}
 use native.Mathlib.Omega.{arith}
 use mathlib.Core.Path.{◌≡◌, refl, ◌∙◌}
@@ -6,7 +7,6 @@ use mathlib.Core.Bool.{Bool, true, false, ◌&&◌, ◌||◌}
 use mathlib.Core.List.{List, [], ◌∷◌}
 use lib.ListN.{length}
 use borrow.Author.Tests.{eq-eqb, ne_eqb}
-use Rattle.rules.specs.steps.Tables.{if◌then◌else◌}
 use Rattle.rules.specs.history.History.{Commit, has_written, place_after, writer_among, every_commit, writer}
 use Rattle.rules.specs.history.Past.{in_past, up_to}
 use Rattle.rules.specs.demand.Judge.{version_count, number_among}

@@ -1,11 +1,12 @@
 -- Nothing is lost in the numbers of docs/RULES.md: each numbering is injective, an abort's with its cell. A numbering that can be read back
 -- is, so for reasons and refusals the reading back is written down.
+use Rattle.std.specs.Prelude.{if◌then◌else◌}
 use Prim.Native.Nat.{ℕ}
 use native.Mathlib.Omega.{arith}
 use mathlib.Core.Path.{◌≡◌, refl, sym, ap, ◌∙◌}
 use mathlib.Core.Option.{Option}
 use lib.Dec.{eqb}
-use Rattle.rules.specs.steps.Tables.{if◌then◌else◌, place_of}
+use Rattle.rules.specs.steps.Tables.{place_of}
 use Rattle.rules.specs.steps.Replies.{Reason, torn, overtaken, spent, gave_up, unset, value, Outcome, ok, shows, committed}
 use Rattle.rules.specs.steps.Replies.{aborted, Refusal, not_well_formed, no_handler, no_cell, already_open, not_open, unknown_step, out_of_range}
 use Rattle.rules.specs.steps.Replies.{too_short, bad_file, used_up, too_many_commits, sheet_full, no_room, reason_number, reason_cell, refusal_number}

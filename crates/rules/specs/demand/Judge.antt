@@ -1,7 +1,7 @@
 -- What the history alone tells: each reply, which is what the judge computes, and what a cell's numbers mean.
-use Rattle.std.specs.Prelude.{ℕ, suc, ◌<◌, ◌≡◌, Bool, true, not, ◌&&◌, ◌||◌, List, [], ◌∷◌, ◌↔◌, eqb}
+use Rattle.std.specs.Prelude.{ℕ, suc, ◌<◌, ◌≡◌, Bool, true, not, ◌&&◌, ◌||◌, List, [], ◌∷◌, ◌↔◌, eqb, if◌then◌else◌}
 use Rattle.std.proofs.Math.Option.{Option, none, some}
-use Rattle.rules.specs.steps.Tables.{if◌then◌else◌, put, lowest, LowestOf}
+use Rattle.rules.specs.steps.Tables.{put, lowest, LowestOf}
 use Rattle.rules.specs.steps.Codes.{Step, begin, try, give_up, read, write, Kind, known, unknown}
 use Rattle.rules.specs.steps.Replies.{Reason, torn, overtaken, spent, gave_up, Content, unset, value, Outcome, ok, shows, committed, aborted}
 use Rattle.rules.specs.steps.Replies.{Refusal, unknown_step, Reply}

@@ -1,7 +1,7 @@
 -- What happened, noted from the steps and the replies alone: no number of a cell, a handler or a transaction is looked at, nor a
 -- read set or a copy. Every list here stands latest first.
-use Rattle.std.specs.Prelude.{ℕ, suc, Bool, true, false, ◌&&◌, ◌||◌, List, [], ◌∷◌, length, eqb}
-use Rattle.rules.specs.steps.Tables.{if◌then◌else◌, put}
+use Rattle.std.specs.Prelude.{ℕ, suc, Bool, true, false, ◌&&◌, ◌||◌, List, [], ◌∷◌, length, eqb, if◌then◌else◌}
+use Rattle.rules.specs.steps.Tables.{put}
 use Rattle.rules.specs.steps.Codes.{Step, begin, try, give_up, read, write, Kind, known, unknown}
 use Rattle.rules.specs.steps.Replies.{Content, Outcome, ok, shows, committed, aborted, Reply, reported}
 

@@ -1,8 +1,8 @@
 -- The causal past, and a later version than one read: as relations, to be believed at sight, and as they are computed. The two
 -- are proved equal in proofs/Computed.antt.
-use Rattle.std.specs.Prelude.{ℕ, ◌<◌, ◌≡◌, Bool, true, false, ◌&&◌, ◌||◌, List, [], ◌∷◌, eqb, ltb}
+use Rattle.std.specs.Prelude.{ℕ, ◌<◌, ◌≡◌, Bool, true, false, ◌&&◌, ◌||◌, List, [], ◌∷◌, eqb, ltb, if◌then◌else◌}
 use Rattle.std.proofs.Math.Option.{Option}
-use Rattle.rules.specs.steps.Tables.{if◌then◌else◌, lowest}
+use Rattle.rules.specs.steps.Tables.{lowest}
 use Rattle.rules.specs.steps.Replies.{Content}
 use Rattle.rules.specs.history.History.{Deed, look, Commit, some_look, has_written, place_after}
 

@@ -1,7 +1,7 @@
 -- Transactions done one by one on a plain table, in commit order: all commits, or those of a set, such as a causal past. A cell of the table
 -- is unset or holds a value.
-use Rattle.std.specs.Prelude.{ℕ, ◌≡◌, Bool, List, [], ◌∷◌, length, ltb}
-use Rattle.rules.specs.steps.Tables.{if◌then◌else◌, put}
+use Rattle.std.specs.Prelude.{ℕ, ◌≡◌, Bool, List, [], ◌∷◌, length, ltb, if◌then◌else◌}
+use Rattle.rules.specs.steps.Tables.{put}
 use Rattle.rules.specs.steps.Replies.{Content, unset, value}
 use Rattle.rules.specs.history.History.{Deed, look, again, set, Commit, Abort, History, place_after, writer_among, every_commit}
 use Rattle.rules.specs.history.Past.{Stands, in_past}

@@ -1,8 +1,8 @@
 -- Refusals in their fixed order: each list holds names and conditions, and the first condition that holds decides. A check added
 -- later is one line of a list.
-use Rattle.std.specs.Prelude.{ℕ, Bool, true, false, not, ◌&&◌, List, [], ◌∷◌, ltb, leb}
+use Rattle.std.specs.Prelude.{ℕ, Bool, true, false, not, ◌&&◌, List, [], ◌∷◌, ltb, leb, if◌then◌else◌}
 use Rattle.std.proofs.Math.Option.{Option, none, some}
-use Rattle.rules.specs.steps.Tables.{if◌then◌else◌, is_found, place_of}
+use Rattle.rules.specs.steps.Tables.{is_found, place_of}
 use Rattle.rules.specs.steps.Codes.{begin, try, give_up, read, write, Kind, known, unknown}
 use Rattle.rules.specs.steps.Replies.{Refusal, not_well_formed, no_handler, no_cell, already_open, not_open, unknown_step, out_of_range, too_short}
 

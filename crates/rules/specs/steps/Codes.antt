@@ -1,7 +1,6 @@
 -- Step codes, and the sheet that says what each stands for. Today there is one sheet, by ranges: 0 begin, 1 try to commit, 2 give
 -- up, 32 to 63 read cell (code − 32), 64 to 95 write cell (code − 64); all others are unknown.
-use Rattle.std.specs.Prelude.{ℕ, ◌-◌, Bool, ◌&&◌, eqb, leb}
-use Rattle.rules.specs.steps.Tables.{if◌then◌else◌}
+use Rattle.std.specs.Prelude.{ℕ, ◌-◌, Bool, ◌&&◌, eqb, leb, if◌then◌else◌}
 
 -- The five steps.
 pub data Step : Type 0 where

@@ -1,7 +1,7 @@
 -- The five steps, after Figure 1 of PI 1923 and docs/RULES.md: begin, read, write, try as one step, and give up, which the figure has not.
-use Rattle.std.specs.Prelude.{ℕ, ◌+◌, max, true, not, ◌&&◌, ◌||◌, List, [], ◌∷◌, eqb, ltb}
+use Rattle.std.specs.Prelude.{ℕ, ◌+◌, max, true, not, ◌&&◌, ◌||◌, List, [], ◌∷◌, eqb, ltb, if◌then◌else◌}
 use Rattle.std.proofs.Math.Option.{Option, none, some}
-use Rattle.rules.specs.steps.Tables.{if◌then◌else◌, put, lowest}
+use Rattle.rules.specs.steps.Tables.{put, lowest}
 use Rattle.rules.specs.steps.Codes.{Step, begin, try, give_up, read, write}
 use Rattle.rules.specs.steps.Replies.{Reason, torn, overtaken, spent, gave_up, Content, unset, value, Outcome, ok, shows, committed, aborted}
 use Rattle.rules.specs.steps.Register.{Setting, Cell, Handler, Register, with_handler, no_cells, idle}

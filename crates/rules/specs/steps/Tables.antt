@@ -1,17 +1,11 @@
 -- Tables, and tests over the places of a table. A table is a function from places: it has no length, and what is looked for
 -- among cells is looked for below a given number of places.
-use Rattle.std.specs.Prelude.{ℕ, zero, suc, ◌<◌, Bool, true, false, eqb}
+use Rattle.std.specs.Prelude.{ℕ, zero, suc, ◌<◌, Bool, true, false, cond, eqb}
 use Rattle.std.proofs.Math.Option.{Option, none, some}
-
-infix 20 if◌then◌else◌
--- The first choice where the test holds, and the second where it does not.
-abbrev pub if◌then◌else◌ {ℓ} : {A : Type ℓ} → Bool → A → A → A
-if true then a else b = a
-if false then a else b = b
 
 -- The table with the value v at place k.
 unfoldable pub put {ℓ} : {A : Type ℓ} → (ℕ → A) → ℕ → A → ℕ → A
-put table k v j = if eqb j k then v else (table j)
+put table k v j = cond (eqb j k) v (table j)
 
 -- A place already found, or else this place if it passes.
 unfoldable pub or_else : Option ℕ → Bool → ℕ → Option ℕ
