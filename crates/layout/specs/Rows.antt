@@ -1,6 +1,6 @@
 -- Rows of words: a table as a row, rows one after another, a part of a row, words that are the same but for one part, and a table read
 -- off a row.
-use Rattle.std.specs.Prelude.{ℕ, zero, suc, ◌+◌, ◌≤◌, ◌<◌, ◌≡◌, List, [], ◌∷◌, ◌++◌, length, get_or, take, drop, ltb, if◌then◌else◌}
+use Rattle.std.specs.Prelude.{ℕ, zero, suc, ◌+◌, ◌≤◌, ◌<◌, ◌≡◌, List, [], ◌∷◌, ◌++◌, length, get_or, take, drop, ltb, cond}
 
 -- The first m entries of a table, in order.
 unfoldable pub row : ℕ → (ℕ → ℕ) → List ℕ
@@ -29,4 +29,4 @@ pub record Untouched (from long : ℕ) (words after : List ℕ) : Type 0 where
 
 -- The table below m, and the same entry everywhere beyond.
 unfoldable pub below {ℓ} : {A : Type ℓ} → ℕ → A → (ℕ → A) → ℕ → A
-below m rest table y = if ltb y m then (table y) else rest
+below m rest table y = cond (ltb y m) (table y) rest
