@@ -5,7 +5,7 @@
 // cell, write a cell, try to commit, give up. Every reply, and every word left behind, is proved to be what docs/PROMISES.md promises, for
 // any words, handler, code and value: bad input is refused by number and changes nothing.
 //
-// Link with target/staticlib/libgateway.a, which `rt staticlib gateway` proves and builds for x86-64 Linux. It needs nothing of the
+// Link with target/staticlib/libgateway.a, which `tools/build gateway` proves and builds for x86-64 Linux. It needs nothing of the
 // C library but memcpy and memset. examples/gateway.c, examples/run.c and examples/sheet.c are whole programs.
 //
 // docs/RULES.md has the rules, docs/CODES.md every step code, docs/REPLIES.md every number that is given; zidlemowo_text says in words what

@@ -10,7 +10,7 @@ fn main() {
     println!("cargo:rerun-if-changed={}", library.display());
     if !library.is_file() || !folder.is_absolute() {
         eprintln!("There is no {}, or that is no full path.", library.display());
-        eprintln!("Run `rt staticlib gateway` in the project's root; or name the folder of libgateway.a in ZIDLEMOWO_LIB, by its full path.");
+        eprintln!("Run `tools/build gateway` in the project's root; or name the folder of libgateway.a in ZIDLEMOWO_LIB, by its full path.");
         std::process::exit(1);
     }
     println!("cargo:rustc-link-search=native={}", folder.display());

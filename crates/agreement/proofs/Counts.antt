@@ -4,7 +4,7 @@ use mathlib.Core.Path.{◌≡◌, refl, sym, ap, ◌∙◌}
 use mathlib.Core.List.{List}
 use lib.ListN.{length}
 use Rattle.rules.specs.steps.Tables.{if◌then◌else◌}
-use Rattle.rules.specs.steps.Codes.{Step, begin, try, give_up, read, write, known, plain_sheet}
+use Rattle.rules.specs.steps.Codes.{Step, begin, try, give_up, read, write, plain_sheet}
 use Rattle.rules.specs.steps.Replies.{Outcome, ok, shows, committed, aborted, Reply}
 use Rattle.rules.specs.history.History.{History, note, note_ok, note_shown, note_commit, note_abort, doing, ended, note_reply}
 use Rattle.rules.proofs.history.Alike.{length_same}

@@ -75,7 +75,8 @@ module _ {e : Engine} (keeps : KeepsPromise e) where
   pub not_untouched : ((words : List ℕ) (handler code value : ℕ) → e.after words handler code value ≡ words) → ⊥
   unfolding in_phase
   not_untouched untouched =
-      let phases : ◌≡◌ {A = ℕ} 0 1 = ap (λ words. get_or words 4 0) (sym (untouched (in_phase 0) 0 0 0) ∙ (keeps (in_phase 0) 0 0 0).left) ∙ computed.phase in
+      let phases : ◌≡◌ {A = ℕ} 0 1 = ap (λ words. get_or words 4 0) (sym (untouched (in_phase 0) 0 0 0) ∙ (keeps (in_phase 0) 0 0 0).left) ∙
+      computed.phase in
       omega arith
 
   -- None aborts every try.

@@ -97,12 +97,15 @@ pub record CellsLaid (m long ahead end : ℕ) : Type 0 where
 
 -- They are where the cells begin, where the middle one does, and where the blocks do.
 pub cells_laid : {m start end start' end' start'' end'' : ℕ} → m ≤ 32 → Spans (cell_start m 0) (cell_long m) start end
-    → Spans (cell_start m (m / 2)) (cell_long m) start' end' → Spans (handler_start m 0) (handler_long m) start'' end'' → CellsLaid m end start' (start'' - start')
+    → Spans (cell_start m (m / 2)) (cell_long m) start' end' → Spans (handler_start m 0) (handler_long m) start'' end'' → CellsLaid m end start'
+    (start'' - start')
 cells_laid {m} h first middle block =
     omega (arith, first.starts, first.ends, middle.starts, block.starts, parts, cell_start_small m m h h)
   where
     parts : cell_start m (m - m / 2) + cell_start m (m / 2) ≡ cell_start m m
-    parts = sym (add-mul (m - m / 2) (m / 2) (cell_long m)) ∙ ap (λ (count : ℕ). count * cell_long m) (let all : m - m / 2 + m / 2 ≡ m = omega arith in all)
+    parts =
+        sym (add-mul (m - m / 2) (m / 2) (cell_long m)) ∙ ap (λ (count : ℕ). count * cell_long m)
+        (let all : m - m / 2 + m / 2 ≡ m = omega arith in all)
 
 -- All rows are good just when those of the first part are and, beside them, those of the second.
 halves : (m half count : ℕ) (Good : ℕ → Type 0) → count + half ≡ m → half ≤ count
@@ -143,7 +146,8 @@ pub record BlocksLaid (m n start long numbers end : ℕ) : Type 0 where
   pub small : end ≤ 2640
 
 -- They are where the first block lies, where a transaction's numbers begin in a block, and how long the body is.
-pub blocks_laid : {m n start end numbers all : ℕ} → (m ≤ 32) × (n ≤ 16) → Spans (handler_start m 0) (handler_long m) start end → numbers ≡ transaction_from m
+pub blocks_laid : {m n start end numbers all : ℕ} → (m ≤ 32) × (n ≤ 16) → Spans (handler_start m 0) (handler_long m) start end → numbers ≡
+    transaction_from m
     → all ≡ body_long m n → BlocksLaid m n start (end - start) numbers all
 blocks_laid {m} {n} given block numbers all = omega (arith, block.starts, block.ends, body_small m n given.0 given.1)
 
@@ -152,5 +156,6 @@ pub front_sum : (last m : ℕ) (block : List ℕ) → ((place : ℕ) → get_or 
     → Faults front_most (GoodFront last m block) (phase + bit_or (read_set_in block) (written_set_in block) / 2 ^ m)
 front_sum last m block fits phase = faults_same (omega arith) Iff.rfl (faults_both phase sets)
   where
-    sets : Faults (2 * 4294967295) (NoBitFrom m (read_set_in block) × NoBitFrom m (written_set_in block)) (bit_or (read_set_in block) (written_set_in block) / 2 ^ m)
+    sets : Faults (2 * 4294967295) (NoBitFrom m (read_set_in block) × NoBitFrom m (written_set_in block))
+        (bit_or (read_set_in block) (written_set_in block) / 2 ^ m)
     sets = faults_above m _ _ (set_faults m _ (fits 1)) (set_faults m _ (fits 2))

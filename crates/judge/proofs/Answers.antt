@@ -174,10 +174,12 @@ module _ {words : List ℕ} {m i : ℕ} {s : Step} (ready : JudgeReady words m i
       → told ≡ tears_at m (commits_in m words (commits_noted words)) (deeds_of (entry_in words row) m) place → torn_by words i x ≡ told
   torn_told x {place = place} there wrote e =
       ap (tears_at (cells_of words) (commits words) (deeds words i)) (sym wrote)
-      ∙ sym (e ∙ ap₂ (λ cells row. tears_at cells (commits_in cells words (commits_noted words)) (deeds_of (entry_in words row) cells) place) ready.cells there)
+      ∙ sym (e ∙ ap₂ (λ cells row. tears_at cells (commits_in cells words (commits_noted words)) (deeds_of (entry_in words row) cells) place)
+      ready.cells there)
 
 -- What was found of a row that is the handler's is what the handler's row says.
 pub touched_told : (words : List ℕ) (i x : ℕ) {row : ℕ} {told : Bool} → row ≡ handler_row i
     → told ≡ has_read (deeds_of (entry_in words row) (cells_of words)) x || has_written (deeds_of (entry_in words row) (cells_of words)) x
     → touched words i x ≡ told
-touched_told words i x there e = sym (e ∙ ap (λ (k : ℕ). let done = deeds_of (entry_in words k) (cells_of words) in has_read done x || has_written done x) there)
+touched_told words i x there e =
+    sym (e ∙ ap (λ (k : ℕ). let done = deeds_of (entry_in words k) (cells_of words) in has_read done x || has_written done x) there)

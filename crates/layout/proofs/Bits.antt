@@ -11,7 +11,7 @@ use lib.Dec.{eqb, eqb-suc-suc, eqb-zero-suc, eqb-suc-zero}
 use lib.Pow.{shr-shr, pow_mono, shl_exact}
 use lib.Count.{count_trailing_zeros}
 use borrow.Author.Tests.{eq-eqb, ne_eqb, eqb-true, eqb-false}
-use Rattle.rules.specs.steps.Tables.{if◌then◌else◌, put}
+use Rattle.rules.specs.steps.Tables.{put}
 use Rattle.rules.specs.steps.Register.{no_cells}
 use Rattle.rules.proofs.steps.Tables.{by, put_same, put_beyond}
 use Rattle.layout.specs.Bits.{bit, has_bit, mask, with_bit}

@@ -1,6 +1,6 @@
 -- Words that hold a register's body, part by part: each cell's words, each handler's block, and what lies beyond. They are
 -- exactly the register's poured words with that behind them.
-use Prim.Native.Nat.{ℕ, ◌+◌, ◌*◌, ◌≤◌, ◌<◌}
+use Prim.Native.Nat.{ℕ, ◌+◌, ◌*◌, ◌≤◌}
 use mathlib.Core.Path.{◌≡◌, sym, ap, ◌∙◌}
 use mathlib.Core.List.{List, [], ◌∷◌, ◌++◌, append_assoc}
 use native.Mathlib.Omega.{arith}
@@ -9,7 +9,7 @@ use lib.ListN.{length, take, drop, length-append, length-drop}
 use lib.Seq.{drop-drop, drop_at, drop-append-add}
 use Rattle.rules.specs.steps.Register.{Register}
 use Rattle.layout.specs.Rows.{rows}
-use Rattle.layout.specs.Places.{cell_long, handler_long, body_long, size, body_of, cell_part, handler_part}
+use Rattle.layout.specs.Places.{cell_long, handler_long, body_long, size, body_of}
 use Rattle.layout.specs.View.{pour_cell, pour_handler, pour, Holds, register_in}
 use Rattle.layout.proofs.Rows.{rows_length, rows_part, rows_cut}
 use Rattle.layout.proofs.Places.{handlers_start}

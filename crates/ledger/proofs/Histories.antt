@@ -121,7 +121,9 @@ module _ {words : List ℕ} (ledger : Ledger words) {i : ℕ} (seat : i < handle
   history_changed {opened} {deeds} {commits} aborts is_opened same noted = record {
     commits = subst₂ (λ m k. SameCommits commits (commits_in m after k)) (sym changes.cells) (sym changes.noted) noted;
     opened = table_changed ◌≡◌ false is_open opened (λ _. refl) (sym is_opened) (λ f g alike. ap (λ (head : ℕ). not (eqb head 0)) alike.head);
-    now = λ j. subst (λ m. SameDeeds (put (history_in words).now i deeds j) (below (handlers_of after) [] (λ k. deeds_of (entry_in after (handler_row k)) m) j))
+    now =
+        λ j. subst (λ m. SameDeeds (put (history_in words).now i deeds j)
+        (below (handlers_of after) [] (λ k. deeds_of (entry_in after (handler_row k)) m) j))
         (sym changes.cells)
         (table_changed SameDeeds [] (λ f. deeds_of f (cells_of words)) deeds (λ _. deeds_refl) same
         (λ f g. deeds_of_same (cells_of words) ledger.range.cells) j);

@@ -32,7 +32,8 @@ module _ {m n : ℕ} {words : List ℕ} {h : History ℕ} (says : Says m n words
   pub says_reply : judged_reply words i code ≡ limited (commits_noted words) (judgement (word_setting m) n h i code)
   says_reply = reply_limited says.ledger i code ∙ ap (limited (commits_noted words)) (counted ∙ sym (judgement_same (word_setting m) says.same i n code))
     where
-      counted : judgement (word_setting (cells_of words)) (handlers_of words) (history_in words) i code ≡ judgement (word_setting m) n (history_in words) i code
+      counted : judgement (word_setting (cells_of words)) (handlers_of words) (history_in words) i code ≡ judgement (word_setting m) n
+          (history_in words) i code
       counted = ap₂ (λ cells handlers. judgement (word_setting cells) handlers (history_in words) i code) says.cells says.handlers
 
   -- The words afterwards say the history with the reply noted.

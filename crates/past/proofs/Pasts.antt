@@ -77,7 +77,8 @@ module _ (m : ℕ) (words : List ℕ) where
         ≡ up_to (commits_in m words count) (source_place source count) j || past_after count i deeds j
     unfolding look_of source_place
     look_adds zero c v deeds j = rw (up_to_opening m words count j)
-    look_adds (suc source) c v deeds j = ap (λ f. f j) (past_look (commits_in m words count) i deeds c source (version_shows source v)) ∙ by (leb source count)
+    look_adds (suc source) c v deeds j =
+        ap (λ f. f j) (past_look (commits_in m words count) i deeds c source (version_shows source v)) ∙ by (leb source count)
         (λ e. rw e)
         (λ e. rw (e, up_to_opening m words count j, up_to_outside m words count source j (leb-false source count e)))
 

@@ -2,7 +2,7 @@
 use Prim.Native.Nat.{ℕ, zero, suc, ◌+◌, ◌<◌, ◌≤◌}
 use native.Mathlib.Omega.{arith}
 use mathlib.Core.Path.{◌≡◌, refl, sym, ap, ap₂, ◌∙◌}
-use mathlib.Core.Bool.{true, false, true≢false}
+use mathlib.Core.Bool.{false, true≢false}
 use mathlib.Core.List.{List, [], ◌∷◌, ◌++◌}
 use mathlib.Core.Option.{none, some}
 use lib.ListN.{length}
@@ -12,7 +12,7 @@ use Rattle.rules.specs.Promise.{Promise}
 use Rattle.rules.specs.steps.Replies.{Refusal, ready}
 use Rattle.rules.specs.steps.Tables.{if◌then◌else◌}
 use Rattle.rules.proofs.steps.Tables.{by, found}
-use Rattle.layout.specs.Places.{cells_of, handlers_of, body_of}
+use Rattle.layout.specs.Places.{body_of}
 use Rattle.layout.specs.View.{view}
 use Rattle.layout.specs.WellFormed.{WellFormed}
 use Rattle.layout.proofs.Places.{body_small}
@@ -20,7 +20,7 @@ use Rattle.layout.proofs.Tested.{tested}
 use Rattle.layout.proofs.Kept.{Keeps}
 use Rattle.promises.specs.Opening.{opening_reply, OpeningPromise}
 use Rattle.promises.specs.Stepping.{StepPromise}
-use Rattle.promises.proofs.Leaves.{step_keeps, Ready, opening_ready}
+use Rattle.promises.proofs.Leaves.{step_keeps, opening_ready}
 use Rattle.promises.proofs.Runs.{checks_pass, opens}
 use Rattle.replies.specs.Ends.{cell_line}
 use Rattle.ledger.specs.Entries.{ledger_long}
@@ -39,13 +39,12 @@ use Rattle.runs.specs.ByRules.{Run, ran, started, run_from, played_by, run_of}
 use Rattle.runs.specs.Players.{Player, the_register, the_judge, reply_by, words_by}
 use Rattle.runs.specs.ByPlaces.{Stretch, places_from, words_for}
 use Rattle.runs.specs.Stopping.{stops, until_stop, ever_stops}
-use Rattle.runs.specs.RunOfPlaces.{shown_from}
 use Rattle.runs.proofs.RunOf.{run_of_places, refused_run}
 use Rattle.runs.proofs.GoesOn.{register_goes_on}
-use Rattle.agreement.specs.Agreement.{cut_after, commits_among, judged_from, Agree}
+use Rattle.agreement.specs.Agreement.{commits_among, judged_from, Agree}
 use Rattle.agreement.proofs.Agrees.{judge_agrees}
 use Rattle.prints.specs.Printed.{register_text, played_text, printed, judged_text, judged_printed, printing}
-use Rattle.prints.specs.ByPlaces.{shown_cells, all_places, cells_behind, opened_words, admitted_text, file_text}
+use Rattle.prints.specs.ByPlaces.{cells_behind, opened_words, admitted_text, file_text}
 use Rattle.prints.proofs.Cells.{cells_alike}
 
 -- ── The register's words at the end ───────────────────────────────────
@@ -108,7 +107,8 @@ module _ (file : List ℕ) (free : file_refusal file ≡ none) where
   places_are = rw ((file_tested file).1 good.sound)
 
   -- Its text place by place.
-  text_by_places : (player : Player) (words : List ℕ) → let stretch = places_from player file (length (order_in file)) at_start 0 (opened_words player words m n) in
+  text_by_places : (player : Player) (words : List ℕ) → let stretch =
+      places_from player file (length (order_in file)) at_start 0 (opened_words player words m n) in
       file_text player file words ≡ header_text n m ++ lines_text (until_stop stretch.lines) ++ cells_behind player m stretch
   unfolding admitted_text admission_of admitted
   text_by_places player words = rw (free, places_are)

@@ -1,6 +1,6 @@
 -- The text of a file's run place by place, on the words of whoever answers its steps. Internal: the contracts of the functions inside
 -- this crate cite it; proofs/Whole.antt shows that it is the text by the rules.
-use Rattle.std.specs.Prelude.{ℕ, ◌+◌, ◌≡◌, Bool, true, not, List, [], ◌++◌}
+use Rattle.std.specs.Prelude.{ℕ, ◌≡◌, Bool, true, not, List, [], ◌++◌}
 use Rattle.rules.specs.steps.Tables.{if◌then◌else◌}
 use Rattle.text.specs.Bytes.{in_turn}
 use Rattle.text.specs.Lies.{Puts}

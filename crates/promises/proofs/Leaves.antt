@@ -10,17 +10,14 @@ use native.Mathlib.Omega.{arith}
 use lib.Dec.{ltb}
 use lib.ListN.{length, drop}
 use borrow.Author.Tests.{ltb-false, not-false}
-use Rattle.rules.specs.steps.Codes.{Step}
 use Rattle.rules.specs.steps.Replies.{Refusal, Reply, ready}
 use Rattle.rules.specs.steps.Register.{fresh}
 use Rattle.rules.specs.steps.Checks.{first_hit, in_range, opening_checks}
-use Rattle.rules.specs.steps.Given.{Free}
 use Rattle.rules.proofs.steps.Given.{none_holds, Verdict, verdict}
-use Rattle.rules.specs.steps.Turn.{taken_turn, refused_turn}
 use Rattle.rules.proofs.steps.Turns.{given_turn, free_turn}
 use Rattle.rules.proofs.steps.Confined.{Confined, step_confined, fresh_confined}
 use Rattle.layout.specs.Places.{cells_of, handlers_of, size, body_of}
-use Rattle.layout.specs.View.{word_setting, view, viewed, register_in}
+use Rattle.layout.specs.View.{word_setting, view, register_in}
 use Rattle.layout.specs.WellFormed.{WellFormed}
 use Rattle.layout.proofs.Tested.{tested}
 use Rattle.layout.proofs.Holds.{register_length, register_beyond}

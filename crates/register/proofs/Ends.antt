@@ -34,7 +34,9 @@ module _ (words : List ℕ) (c : ℕ) where
         → EndPromise words c (some (record { content = content; number = get_or words (start + 1 + c) 0 }))
     unfolding end_of
     end_shown {place} {start} {content} inside placed starts shows = record {
-      replied = rw (formed, lt-ltb c (cells_of words) inside) (λ i. some (record { content = (shows ∙ ap₂ version_shows number value) i; number = number i }));
+      replied =
+          rw (formed, lt-ltb c (cells_of words) inside)
+          (λ i. some (record { content = (shows ∙ ap₂ version_shows number value) i; number = number i }));
       left = refl;
     }
       where

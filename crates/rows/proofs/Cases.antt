@@ -50,7 +50,8 @@ unfolding rowing rowed_by row_checks steps_in words_after reports_of turn_of ste
 goes_on = refl
 
 -- A phase of 2 is no register's: 10, and no step is taken or reported.
-pub malformed_first : rowing (three_steps 2 seventeen) ≡ record { reply = some not_well_formed; leaves = record { words = in_phase 2; reports = seventeen } }
+pub malformed_first : rowing (three_steps 2 seventeen) ≡ record
+    { reply = some not_well_formed; leaves = record { words = in_phase 2; reports = seventeen } }
 unfolding rowing rowed_by row_checks steps_in first_hit every_below numbers_fit is_good_block is_good_body is_well_formed has_bit mask
     lowest or_else some_below in_range
 malformed_first = refl

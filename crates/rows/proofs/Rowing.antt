@@ -52,7 +52,8 @@ module _ (words steps reports : List ℕ) (place : ℕ) where
         after ≡ words_after words asks → told ≡ splice place (report_width * (length steps / step_width)) (reports_of words asks) reports
         → RowPromise words steps reports place none after told
     unfolding rowing rowed_by
-    row_done is {after} {told} left put = record { replied = rw nothing; left = rw nothing (λ i. record { words = words_left i; reports = reports_left i }) }
+    row_done is {after} {told} left put =
+        record { replied = rw nothing; left = rw nothing (λ i. record { words = words_left i; reports = reports_left i }) }
       where
         nothing : first_hit (row_checks call) ≡ none
         nothing = says_nothing is

@@ -1,6 +1,6 @@
 -- The register stops nowhere: the rules give no step 33.
 use Prim.Native.Nat.{ℕ, zero, suc, ◌+◌}
-use mathlib.Core.Path.{◌≡◌, refl, ap, ◌∙◌, subst}
+use mathlib.Core.Path.{◌≡◌, refl, ap, ◌∙◌}
 use mathlib.Core.Bool.{false}
 use mathlib.Core.List.{List}
 use mathlib.Core.Logic.{inl, inr}
@@ -15,7 +15,7 @@ use Rattle.rules.proofs.steps.Turns.{given_turn, free_turn}
 use Rattle.layout.specs.View.{viewed}
 use Rattle.promises.specs.Stepping.{asked_of, turn_of}
 use Rattle.schedule.specs.Scripts.{ScriptStep}
-use Rattle.schedule.specs.Taking.{Cursors, Next, rejected, over, refused, taken, next_of, cursors_after}
+use Rattle.schedule.specs.Taking.{Next, rejected, over, refused, taken, next_of, cursors_after}
 use Rattle.lines.specs.Lines.{Line}
 use Rattle.runs.specs.Players.{the_register, reply_by}
 use Rattle.runs.specs.ByPlaces.{in_front, line_for, words_for, places_from}

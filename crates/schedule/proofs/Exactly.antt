@@ -14,7 +14,7 @@ use Rattle.rules.proofs.steps.Given.{exactly}
 use Rattle.schedule.specs.Sound.{handlers_in, is_sound_file}
 use Rattle.schedule.specs.Finding.{script_checks, script_refusal}
 use Rattle.schedule.specs.Taking.{Cursors, left_of, is_spoilt, left_checks, place_checks}
-use Rattle.schedule.specs.Given.{PlaceGiven, beyond, nothing_left, no_step_there, ScriptGiven, unsound}
+use Rattle.schedule.specs.Given.{PlaceGiven, nothing_left, no_step_there, ScriptGiven, unsound}
 use Rattle.schedule.proofs.Sounds.{file_tested, not_sound_file}
 use Rattle.rules.specs.steps.Replies.{not_well_formed, out_of_range, sheet_full, too_many_commits, too_short}
 

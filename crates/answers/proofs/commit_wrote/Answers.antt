@@ -1,7 +1,6 @@
 -- `answers::commit_wrote` meets its contract: the commit's row is asked.
 use Prim.Native.Nat.{ℕ}
 use mathlib.Core.Path.{ap, ◌∙◌}
-use native.Mathlib.Omega.{arith}
 use Rattle.ledger.specs.Entries.{entry_in}
 use Rattle.answers.proofs.commit_wrote.Goals as goal
 

@@ -18,7 +18,8 @@ unfolding entry_in
 found c = ap (λ (at : ℕ). value (get_or c.args.words.now at 0)) c.copy_at-at.ensures
 
 pub returns-then-wrote : goal.returns-then-wrote
-returns-then-wrote c m inside = found (goal.at.returns-then-wrote c).After-copy_at-at ∙ sym (shown_written _ m _ inside (sym c.wrote.ensures ∙ c.if-wrote.true))
+returns-then-wrote c m inside =
+    found (goal.at.returns-then-wrote c).After-copy_at-at ∙ sym (shown_written _ m _ inside (sym c.wrote.ensures ∙ c.if-wrote.true))
 
 pub returns-then-source_noted-le1 : goal.returns-then-source_noted-le1
 returns-then-source_noted-le1 c m inside = let unwritten = sym c.wrote.ensures ∙ c.if-wrote.false in

@@ -1,5 +1,4 @@
 -- `answers::has_copy` meets its contract: a source is noted of a cell that was read, and else a write must be.
-use native.Mathlib.Omega.{arith}
 use mathlib.Core.Path.{sym, ◌∙◌}
 use Rattle.ledger.proofs.Deeds.{copy_none, copy_noted}
 use Rattle.answers.proofs.has_copy.Goals as goal

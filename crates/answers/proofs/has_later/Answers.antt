@@ -1,9 +1,7 @@
 -- `answers::has_later` meets its contract: no commit passed is marked and wrote a later version.
-use Prim.Native.Nat.{◌+◌, ◌-◌, ◌≤◌}
 use native.Mathlib.Omega.{arith}
-use Rattle.rules.proofs.steps.Searches.{NoneBelow, search_goes, search_hits, search_misses}
-use Rattle.ledger.proofs.Versions.{is_later, later_at}
-use Rattle.past.specs.Marks.{marked}
+use Rattle.rules.proofs.steps.Searches.{search_goes, search_hits, search_misses}
+use Rattle.ledger.proofs.Versions.{later_at}
 use Rattle.answers.proofs.has_later.Goals as goal
 
 pub loop-earlier-init : goal.loop-earlier-init

@@ -1,5 +1,4 @@
 -- `answers::is_later` meets its contract: three tests, one after another.
-use native.Mathlib.Omega.{arith}
 use mathlib.Core.Path.{sym, ◌∙◌}
 use mathlib.Core.Bool.{and-true, and-false}
 use borrow.Author.Tests.{lt-ltb, le-ltb}

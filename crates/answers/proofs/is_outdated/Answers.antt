@@ -1,5 +1,4 @@
 -- `answers::is_outdated` meets its contract: where a source is noted, it is asked for a later version.
-use native.Mathlib.Omega.{arith}
 use mathlib.Core.Path.{sym, ◌∙◌}
 use Rattle.rules.specs.history.Past.{outdated}
 use Rattle.ledger.proofs.Deeds.{look_none, look_noted}

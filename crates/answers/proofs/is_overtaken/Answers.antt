@@ -1,5 +1,4 @@
 -- `answers::is_overtaken` meets its contract: where a source is noted, it is compared with the writer.
-use native.Mathlib.Omega.{arith}
 use mathlib.Core.Path.{sym}
 use Rattle.rules.specs.demand.Judge.{stale}
 use Rattle.ledger.proofs.Deeds.{look_none, look_noted}

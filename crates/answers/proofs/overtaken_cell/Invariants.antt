@@ -1,10 +1,8 @@
 -- `answers::overtaken_cell` meets its contract: no cell passed was read in another version than the present one, so the first that was is
 -- the lowest.
-use Prim.Native.Nat.{◌-◌, ◌≤◌}
-use native.Mathlib.Omega.{arith}
-use mathlib.Core.Path.{refl}
+use Prim.Native.Nat.{◌≤◌}
 use Rattle.rules.specs.demand.Judge.{stale}
-use Rattle.rules.proofs.steps.Searches.{NoneBelow, search_goes, search_names, search_ends}
+use Rattle.rules.proofs.steps.Searches.{NoneBelow}
 use Rattle.ledger.specs.Entries.{entry_in}
 use Rattle.ledger.specs.Histories.{deeds_of, commits_in}
 use Rattle.answers.proofs.overtaken_cell.Given as goal

@@ -1,6 +1,5 @@
 -- `answers::present_content` meets its contract: nothing where the opening is the writer, and else the copy in the writer's row.
 use Prim.Native.Nat.{ℕ}
-use native.Mathlib.Omega.{arith}
 use mathlib.Core.Path.{sym, ap, ◌∙◌}
 use lib.ListN.{get_or}
 use Rattle.rules.specs.steps.Replies.{value}

@@ -1,11 +1,8 @@
 -- `answers::present_version` meets its contract: of the commits passed, the last that wrote the cell is its writer, and each that
 -- wrote it is counted.
-use Prim.Native.Nat.{ℕ, ◌+◌, ◌-◌, ◌≤◌, ◌<◌}
+use Prim.Native.Nat.{◌+◌}
 use native.Mathlib.Omega.{arith}
 use mathlib.Core.Path.{◌≡◌, sym, ap, ◌∙◌}
-use Rattle.rules.specs.history.History as History
-use Rattle.rules.specs.demand.Judge.{version_count}
-use Rattle.ledger.specs.Histories.{commits_in}
 use Rattle.ledger.proofs.Versions.{writer_none, writer_wrote, writer_kept, versions_none, versions_wrote, versions_kept}
 use Rattle.answers.proofs.present_version.Goals as goal
 use Rattle.answers.proofs.present_version.Goals.{then-commit_wrote, else-commit_wrote}
@@ -21,7 +18,7 @@ loop-earlier-preserved c =
       elim c.if-commit_wrote.branch [ then-commit_wrote w ↦ omega arith | else-commit_wrote w ↦ omega arith ],
       elim c.if-commit_wrote.branch [ then-commit_wrote w ↦ omega arith | else-commit_wrote w ↦ omega arith ],
       λ m inside. elim c.if-commit_wrote.branch [
-        then-commit_wrote w ↦ let written = sym row ∙ w.if-commit_wrote.true in (
+        | then-commit_wrote w ↦ let written = sym row ∙ w.if-commit_wrote.true in (
           w.writer-is ∙ sym (writer_wrote m _ _ inside _ written),
           w.number-is ∙ ap (λ n. n + 1) (stood m inside).1 ∙ sym (versions_wrote m _ _ inside _ written),
         )
@@ -33,4 +30,5 @@ loop-earlier-preserved c =
     )
 
 pub returns : goal.returns
-returns c = let all : c.loop-earlier.earlier ≡ c.args.count = omega arith in record { version = rw all at c.loop-earlier.invariant.3; within = omega arith }
+returns c =
+    let all : c.loop-earlier.earlier ≡ c.args.count = omega arith in record { version = rw all at c.loop-earlier.invariant.3; within = omega arith }

@@ -1,13 +1,12 @@
 -- `answers::torn_cell` meets its contract: of no cell passed a later version than the one read is in the past that is marked, so the first
 -- of which one is, is the lowest.
-use Prim.Native.Nat.{ℕ, ◌-◌, ◌≤◌}
+use Prim.Native.Nat.{ℕ, ◌≤◌}
 use native.Mathlib.Omega.{arith}
 use mathlib.Core.Path.{◌≡◌, sym, ◌∙◌}
-use mathlib.Core.Bool.{Bool}
 use mathlib.Core.List.{List}
 use Rattle.rules.specs.steps.Tables.{lowest}
-use Rattle.rules.specs.history.Past.{up_to, outdated, tears_at}
-use Rattle.rules.proofs.steps.Searches.{NoneBelow, search_goes, search_names, search_ends}
+use Rattle.rules.specs.history.Past.{up_to, tears_at}
+use Rattle.rules.proofs.steps.Searches.{search_goes, search_names, search_ends}
 use Rattle.ledger.specs.Entries.{entry_in}
 use Rattle.ledger.specs.Histories.{deeds_of, commits_in}
 use Rattle.ledger.proofs.Commits.{up_to_first}

@@ -1,7 +1,6 @@
 -- `answers::wrote` meets its contract: a row's second word has a bit for each cell written.
 use Prim.Native.Nat.{ℕ}
 use mathlib.Core.Path.{ap, ◌∙◌}
-use native.Mathlib.Omega.{arith}
 use lib.ListN.{get_or}
 use Rattle.layout.specs.Bits.{has_bit}
 use Rattle.ledger.specs.Entries.{entry_in}

@@ -3,7 +3,6 @@ use mathlib.Core.Path.{◌∙◌}
 use mathlib.Core.Logic.{inl}
 use native.Mathlib.Omega.{arith}
 use lib.ListN.{length-set}
-use borrow.Author.Rules.{rules}
 use Rattle.words.proofs.Changes.{changed_at}
 use Rattle.block.proofs.Headed.{headed, begins}
 use Rattle.block.proofs.begin.Goals as goal

@@ -7,7 +7,6 @@ use lib.Signed.{lt_z}
 use mir.Syntax.{w32}
 use mir.Val.{to_z}
 use mir.Facts.{to_z_pos}
-use borrow.Author.Rules.{rules}
 use borrow.Author.Tests.{ltb-true, ltb-false}
 use Rattle.limits.specs.Limits.{most_number}
 use Rattle.block.proofs.larger.Goals as goal

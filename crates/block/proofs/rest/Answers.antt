@@ -2,7 +2,6 @@
 use mathlib.Core.Path.{◌∙◌}
 use native.Mathlib.Omega.{arith}
 use lib.ListN.{length-set}
-use borrow.Author.Rules.{rules}
 use Rattle.words.proofs.Changes.{changed_at}
 use Rattle.block.proofs.Headed.{headed, rests}
 use Rattle.block.proofs.rest.Goals as goal

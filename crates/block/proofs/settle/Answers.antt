@@ -3,7 +3,6 @@ use mathlib.Core.Path.{sym, ap, ◌∙◌}
 use mathlib.Core.Logic.{inr}
 use native.Mathlib.Omega.{arith}
 use lib.ListN.{length}
-use borrow.Author.Rules.{rules}
 use Rattle.rules.specs.steps.Register.{idle}
 use Rattle.layout.specs.View.{word_setting, pour_handler}
 use Rattle.layout.proofs.Blocks.{poured_handler}

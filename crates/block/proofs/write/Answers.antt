@@ -2,7 +2,6 @@
 use Prim.Native.Nat.{◌+◌}
 use native.Mathlib.Omega.{arith}
 use lib.ListN.{length-set}
-use borrow.Author.Rules.{rules}
 use Rattle.layout.proofs.Blocks.{handler_is, viewed_handler}
 use Rattle.block.proofs.Stores.{stored, stored_at}
 use Rattle.block.proofs.Held.{wrote_held}

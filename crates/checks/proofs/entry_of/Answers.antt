@@ -1,6 +1,5 @@
 -- `checks::entry_of` meets its promise: the plain sheet's table has the entry of every code.
 use mathlib.Core.Path.{refl, ◌∙◌}
-use borrow.Author.Rules.{rules}
 use Rattle.checks.proofs.Tables.{table_at, plain_fits}
 use Rattle.checks.proofs.entry_of.Goals as goal
 

@@ -1,7 +1,5 @@
 -- `checks::kind_in` meets its promise: each arm's number is that of its kind.
 use mathlib.Core.Path.{refl}
-use native.Mathlib.Omega.{arith}
-use borrow.Author.Rules.{rules}
 use Rattle.checks.specs.Entries.{numbered}
 use Rattle.checks.proofs.Tables.{says_number, says_none}
 use Rattle.checks.proofs.kind_in.Goals as goal

@@ -1,6 +1,5 @@
 -- `checks::kind_of` meets its promise: the entry of a code says what the plain sheet does.
 use mathlib.Core.Path.{refl, ◌∙◌}
-use borrow.Author.Rules.{rules}
 use Rattle.checks.proofs.Tables.{entry_tells}
 use Rattle.checks.proofs.kind_of.Goals as goal
 

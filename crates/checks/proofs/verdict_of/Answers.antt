@@ -4,7 +4,6 @@ use mathlib.Core.Path.{◌≡◌, refl, sym, ap₂, ◌∙◌}
 use mathlib.Core.Bool.{Bool, true, false}
 use mathlib.Core.Option.{Option}
 use native.Mathlib.Omega.{arith}
-use borrow.Author.Rules.{rules}
 use Rattle.rules.specs.steps.Replies.{Refusal}
 use Rattle.rules.specs.steps.Checks.{Asked, asking, first_hit, step_checks, is_unknown}
 use Rattle.checks.specs.Meaning.{kind_is}
@@ -27,7 +26,8 @@ by_phase : (c : After-is_begin) {begins opened : Bool} → let args = c.args in
     → phased begins opened ≡ first_hit (step_checks (asking true args.m args.n args.handler (kind_is args.kind) args.opened))
 by_phase c begins opened =
     let placed = sym c.is_beyond.ensures ∙ c.if-is_beyond.false in
-    ap₂ phased (sym begins ∙ c.is_begin.ensures) (sym opened) ∙ stops_phased _ refl (known c.before.before.before.before) (inside c.before.before.before) placed
+    ap₂ phased (sym begins ∙ c.is_begin.ensures) (sym opened) ∙ stops_phased _ refl (known c.before.before.before.before)
+    (inside c.before.before.before) placed
 
 -- What the checks say is all that is promised.
 says : {asked : Asked} {verdict : Option Refusal} → verdict ≡ first_hit (step_checks asked) → VerdictPromise asked verdict
@@ -40,7 +40,9 @@ pub returns-then-n-handler : goal.returns-then-n-handler
 returns-then-n-handler c = says (stops_11 _ refl (known (goal.at.returns-then-n-handler c).Else-is_unknown) (omega arith))
 
 pub returns-then-is_beyond : goal.returns-then-is_beyond
-returns-then-is_beyond c = says (stops_12 _ refl (known (goal.at.returns-then-is_beyond c).Else-is_unknown) (inside (goal.at.returns-then-is_beyond c).Else-n-handler) (sym c.is_beyond.ensures ∙ c.if-is_beyond.true))
+returns-then-is_beyond c =
+    says (stops_12 _ refl (known (goal.at.returns-then-is_beyond c).Else-is_unknown) (inside (goal.at.returns-then-is_beyond c).Else-n-handler)
+    (sym c.is_beyond.ensures ∙ c.if-is_beyond.true))
 
 pub returns-then-opened : goal.returns-then-opened
 returns-then-opened c = says (by_phase (goal.at.returns-then-opened c).After-is_begin c.if-is_begin.true c.if-opened.true)

@@ -1,6 +1,5 @@
 -- `counts::done_column` meets its contract: a begin that is done raises begun, and another step none.
 use native.Mathlib.Omega.{arith}
-use borrow.Author.Rules.{rules}
 use Rattle.counts.specs.Counting.{begun, raised_by}
 use Rattle.counts.proofs.Columns.{at_count, at_none}
 use Rattle.counts.proofs.done_column.Goals as goal

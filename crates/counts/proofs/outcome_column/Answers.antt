@@ -1,6 +1,5 @@
 -- `counts::outcome_column` meets its contract: each outcome raises the count that the table says, or none.
 use native.Mathlib.Omega.{arith}
-use borrow.Author.Rules.{rules}
 use Rattle.counts.specs.Counting.{committed, torn, overtaken, spent, gave_up, raised_by}
 use Rattle.counts.proofs.Columns.{at_count, at_none}
 use Rattle.counts.proofs.outcome_column.Goals as goal

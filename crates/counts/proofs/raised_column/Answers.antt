@@ -1,6 +1,5 @@
 -- `counts::raised_column` meets its contract: a report raises what its outcome does, and a refusal none.
 use native.Mathlib.Omega.{arith}
-use borrow.Author.Rules.{rules}
 use Rattle.counts.specs.Counting.{raised}
 use Rattle.counts.proofs.Columns.{at_none}
 use Rattle.counts.proofs.raised_column.Goals as goal

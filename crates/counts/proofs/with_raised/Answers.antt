@@ -1,6 +1,5 @@
 -- `counts::with_raised` meets its contract: each field is raised by what the column adds to it, and has room for it.
 use native.Mathlib.Omega.{arith}
-use borrow.Author.Rules.{rules}
 use Rattle.counts.proofs.Columns.{one_at_most, each_column}
 use Rattle.counts.proofs.with_raised.Goals as goal
 

@@ -2,9 +2,9 @@
 use Prim.Native.Nat.{◌+◌, ◌-◌, ◌/◌, ◌≤◌}
 use native.Mathlib.Omega.{arith}
 use Rattle.layout.specs.Places.{cell_long, cell_start}
-use Rattle.formed.proofs.Gathers.{Told, told_none, told_more}
-use Rattle.formed.proofs.Walks.{Walked, walk_starts, row_there, row_inside, walk_goes, walk_ends}
-use Rattle.formed.proofs.Parts.{PairFits, CellsLaid, cells_laid, behind_length, cell_span, cells_told}
+use Rattle.formed.proofs.Gathers.{told_none, told_more}
+use Rattle.formed.proofs.Walks.{walk_starts, row_there, row_inside, walk_goes, walk_ends}
+use Rattle.formed.proofs.Parts.{CellsLaid, cells_laid, behind_length, cell_span, cells_told}
 use Rattle.formed.proofs.cells_bits.Goals as goal
 use Rattle.formed.proofs.cells_bits.Goals.{After-block_at-block, In-loop-at}
 
@@ -16,7 +16,12 @@ laid c = cells_laid c.requires.0 c.cell_at-cell.ensures c.cell_at-middle.ensures
 -- The cell at hand ends where the walk does or before.
 ends : (c : In-loop-at) → let m = c.args.m in
     c.loop-at.at + cell_long m ≤ cell_start m (m - m / 2)
-ends c = omega (arith, row_inside c.loop-at.invariant (omega (arith, (cells_laid c.requires.0 c.cell_at-cell.ensures c.cell_at-middle.ensures c.block_at-block.ensures).rest)))
+ends c =
+    omega (
+      arith,
+      row_inside c.loop-at.invariant
+          (omega (arith, (cells_laid c.requires.0 c.cell_at-cell.ensures c.cell_at-middle.ensures c.block_at-block.ensures).rest)),
+    )
 
 pub cell_at-cell-requires : goal.cell_at-cell-requires
 cell_at-cell-requires c = (omega arith, omega arith)

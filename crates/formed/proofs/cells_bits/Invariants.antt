@@ -1,10 +1,9 @@
 -- `formed::cells_bits` meets its contract: of the cells passed, what their numbers say is laid over the bits.
-use Prim.Native.Nat.{◌+◌, ◌-◌, ◌/◌, ◌≤◌}
-use native.Mathlib.Omega.{arith}
-use Rattle.layout.specs.Places.{cell_long, cell_start}
-use Rattle.formed.proofs.Gathers.{Told, told_none, told_more}
-use Rattle.formed.proofs.Walks.{Walked, walk_starts, row_there, row_inside, walk_goes, walk_ends}
-use Rattle.formed.proofs.Parts.{PairFits, CellsLaid, cells_laid, behind_length, cell_span, cells_told}
+use Prim.Native.Nat.{◌-◌, ◌/◌}
+use Rattle.layout.specs.Places.{cell_long}
+use Rattle.formed.proofs.Gathers.{Told}
+use Rattle.formed.proofs.Walks.{Walked}
+use Rattle.formed.proofs.Parts.{PairFits}
 use Rattle.formed.proofs.cells_bits.Given as goal
 
 abbrev pub invariant-loop-at : goal.invariant-loop-at

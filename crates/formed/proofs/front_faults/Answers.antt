@@ -1,7 +1,6 @@
 -- `formed::front_faults` meets its contract: phase and sets are looked at, and the sum of their faults is not too large.
 use native.Mathlib.Omega.{arith}
 use mir.Facts.{Fits-32_64, Fits-or}
-use borrow.Author.Rules.{rules}
 use Rattle.formed.proofs.Parts.{front_sum}
 use Rattle.formed.proofs.front_faults.Goals as goal
 

@@ -1,6 +1,5 @@
 -- `formed::good_body` meets its contract: it answers no where the words are too few, and else whether there is no fault.
 use native.Mathlib.Omega.{arith}
-use borrow.Author.Rules.{rules}
 use Rattle.formed.proofs.Answers.{too_short, no_fault}
 use Rattle.formed.proofs.good_body.Goals as goal
 

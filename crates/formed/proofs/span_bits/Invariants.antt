@@ -1,9 +1,9 @@
 -- `formed::span_bits` meets its contract: what the places passed say is laid over the bits.
-use Prim.Native.Nat.{◌-◌, ◌≤◌}
-use native.Mathlib.Omega.{arith}
+use Prim.Native.Nat.{◌≤◌}
 use lib.ListN.{get_or}
-use Rattle.formed.proofs.Gathers.{Told, told_none, told_more, told_all, over_numbers}
+use Rattle.formed.proofs.Gathers.{Told}
 use Rattle.formed.proofs.span_bits.Given as goal
 
 abbrev pub invariant-loop-y : goal.invariant-loop-y
-invariant-loop-y l = (l.from ≤ l.y) × (l.y ≤ l.to) × Told l.bits (λ j. l.from ≤ j → (get_or l.first j 0 ≤ 65535) × (get_or l.second j 0 ≤ 65535)) l.y l.over
+invariant-loop-y l =
+    (l.from ≤ l.y) × (l.y ≤ l.to) × Told l.bits (λ j. l.from ≤ j → (get_or l.first j 0 ≤ 65535) × (get_or l.second j 0 ≤ 65535)) l.y l.over

@@ -2,8 +2,6 @@
 -- else whether the words behind them are a good body.
 use mathlib.Core.Path.{sym, ap, ◌∙◌}
 use native.Mathlib.Omega.{arith}
-use borrow.Author.Rules.{rules}
-use borrow.Author.Tests.{not-true, not-false}
 use Rattle.rules.specs.steps.Given.{InRange}
 use Rattle.rules.proofs.steps.Given.{range_tested}
 use Rattle.rules.proofs.steps.Tables.{both_ways}
@@ -24,7 +22,8 @@ pub returns-then-words-lt-FRONT : goal.returns-then-words-lt-FRONT
 returns-then-words-lt-FRONT c = sym (short_not _ c.if-words-lt-FRONT.true)
 
 pub returns-then-not-in_range : goal.returns-then-not-in_range
-returns-then-not-in_range c = not_formed _ (λ formed. both_ways ((range_tested _ _).1 formed.range) (sym c.in_range.ensures.replied ∙ c.if-not-in_range.true))
+returns-then-not-in_range c =
+    not_formed _ (λ formed. both_ways ((range_tested _ _).1 formed.range) (sym c.in_range.ensures.replied ∙ c.if-not-in_range.true))
 
 pub overflow_cast-m : goal.overflow_cast-m
 overflow_cast-m c = omega (arith, range (goal.at.overflow_cast-m c).Else-not-in_range)

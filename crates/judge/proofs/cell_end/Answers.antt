@@ -1,8 +1,6 @@
 -- `judge::cell_end` meets its promise: what the cell's present version shows, and how many commits wrote it.
 use mathlib.Core.Path.{sym, ◌∙◌}
 use native.Mathlib.Omega.{arith}
-use borrow.Author.Rules.{rules}
-use borrow.Author.Tests.{not-true, not-false}
 use Rattle.ledger.specs.Entries.{Ledger}
 use Rattle.ledger.proofs.Tested.{tested}
 use Rattle.judge.proofs.Ends.{no_end, end_beyond, end_shown}
@@ -29,10 +27,12 @@ pub overflow_cast-count : goal.overflow_cast-count
 overflow_cast-count c = omega (arith, (ledger (goal.at.overflow_cast-count c).Else-not-is_ledger).few)
 
 pub present_version-version-requires : goal.present_version-version-requires
-present_version-version-requires c = let kept = ledger (goal.at.present_version-version-requires c).Else-not-is_ledger in omega (arith, kept.long, kept.range.cells, kept.few)
+present_version-version-requires c =
+    let kept = ledger (goal.at.present_version-version-requires c).Else-not-is_ledger in omega (arith, kept.long, kept.range.cells, kept.few)
 
 pub present_content-requires : goal.present_content-requires
-present_content-requires c = let kept = ledger (goal.at.present_content-requires c).Else-not-is_ledger in omega (arith, kept.long, kept.range.cells, kept.few)
+present_content-requires c =
+    let kept = ledger (goal.at.present_content-requires c).Else-not-is_ledger in omega (arith, kept.long, kept.range.cells, kept.few)
 
 pub returns : goal.returns
 returns c = let kept = ledger (goal.at.returns c).Else-not-is_ledger in

@@ -2,8 +2,6 @@
 use mathlib.Core.Path.{◌≡◌, sym, ap, ◌∙◌}
 use mathlib.Core.Option.{none}
 use native.Mathlib.Omega.{arith}
-use borrow.Author.Rules.{rules}
-use borrow.Author.Tests.{not-true, not-false}
 use Rattle.checks.specs.Meaning.{verdict_is}
 use Rattle.ledger.specs.Entries.{Ledger}
 use Rattle.ledger.proofs.Tested.{tested}
@@ -26,7 +24,9 @@ said c =
 -- The checks let the step through.
 passes : (c : In-Passes) → let args = c.args in
     says args.words.now args.handler args.code ≡ none
-passes c = sym (let args = c.args in c.verdict_of-verdict.ensures.replied ∙ asked_plainly args.words.now args.handler args.code c.kind_of-kind.ensures.replied c.is_open-opened.ensures) ∙ ap verdict_is c.in-Passes.is
+passes c =
+    sym (let args = c.args in c.verdict_of-verdict.ensures.replied ∙ asked_plainly args.words.now args.handler args.code
+    c.kind_of-kind.ensures.replied c.is_open-opened.ensures) ∙ ap verdict_is c.in-Passes.is
 
 pub returns-then-not-is_ledger : goal.returns-then-not-is_ledger
 returns-then-not-is_ledger c = step_malformed _ _ _ _ (sym c.is_ledger.ensures ∙ c.if-not-is_ledger.true)
@@ -45,11 +45,14 @@ bounds-words-1 c = omega (arith, (ledger (goal.at.bounds-words-1 c).Else-not-is_
 
 pub pass-requires : goal.pass-requires
 pass-requires c = let args = c.args in
-    let (s, asks, ready) = step_ready args.words.now args.handler args.code args.value (ledger (goal.at.pass-requires c).Else-not-is_ledger) (passes (goal.at.pass-requires c).In-Passes) in
+    let (s, asks, ready) = step_ready args.words.now args.handler args.code args.value (ledger (goal.at.pass-requires c).Else-not-is_ledger)
+    (passes (goal.at.pass-requires c).In-Passes) in
     (s, c.kind_of-kind.ensures.replied ∙ asks, ready)
 
 pub returns-in-Refuses : goal.returns-in-Refuses
-returns-in-Refuses c = step_stops _ _ _ _ (ledger (goal.at.returns-in-Refuses c).Else-not-is_ledger) _ (sym (said (goal.at.returns-in-Refuses c).After-verdict_of-verdict) ∙ ap verdict_is c.in-Refuses.is)
+returns-in-Refuses c =
+    step_stops _ _ _ _ (ledger (goal.at.returns-in-Refuses c).Else-not-is_ledger) _
+    (sym (said (goal.at.returns-in-Refuses c).After-verdict_of-verdict) ∙ ap verdict_is c.in-Refuses.is)
 
 pub returns-in-Passes : goal.returns-in-Passes
 returns-in-Passes c = step_passes _ _ _ _ (ledger (goal.at.returns-in-Passes c).Else-not-is_ledger) (passes (goal.at.returns-in-Passes c).In-Passes)

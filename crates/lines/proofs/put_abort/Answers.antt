@@ -1,7 +1,6 @@
 -- `lines::put_abort` meets its contract: a word, a reason of one digit, and the cell that it names.
 use Prim.Native.Nat.{◌<◌}
 use native.Mathlib.Omega.{arith}
-use borrow.Author.Rules.{rules}
 use Rattle.rules.specs.steps.Replies as Rules
 use Rattle.rules.specs.steps.Replies.{reason_number}
 use Rattle.replies.specs.Meaning.{reason_is}
@@ -17,7 +16,7 @@ one_digit (Rules.spent z) = omega arith
 one_digit Rules.gave_up = omega arith
 
 pub returns : goal.returns
-returns c = 
+returns c =
     let cell = c.put_cell_of.ensures in
     let number = rw c.reason_number.ensures.replied at c.put_number-numbered.ensures.puts in
     let reason = reason_is c.args.reason in

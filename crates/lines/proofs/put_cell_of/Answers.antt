@@ -1,6 +1,5 @@
 -- `lines::put_cell_of` meets its contract: each reason names its cell, and a give up none.
 use native.Mathlib.Omega.{arith}
-use borrow.Author.Rules.{rules}
 use Rattle.text.proofs.Puts.{puts_none}
 use Rattle.lines.proofs.put_cell_of.Goals as goal
 

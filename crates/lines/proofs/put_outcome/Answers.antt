@@ -1,6 +1,5 @@
 -- `lines::put_outcome` meets its contract: a word, what is shown of a cell, or an abort.
 use native.Mathlib.Omega.{arith}
-use borrow.Author.Rules.{rules}
 use Rattle.lines.proofs.put_outcome.Goals as goal
 
 pub returns-in-Done : goal.returns-in-Done

@@ -1,13 +1,10 @@
 -- `lines::put_refusal` meets its contract: the word, and the refusal's number.
-use mathlib.Core.Path.{subst}
 use native.Mathlib.Omega.{arith}
-use borrow.Author.Rules.{rules}
-use Rattle.text.specs.Lies.{Puts}
 use Rattle.text.proofs.Puts.{puts_both}
 use Rattle.lines.proofs.put_refusal.Goals as goal
 
 pub returns : goal.returns
-returns c = 
+returns c =
     let named = c.put_text-named.ensures in
     let number = rw c.refusal_number.ensures.replied at c.put_number.ensures.puts in record {
       puts = puts_both named number;

@@ -1,12 +1,7 @@
 -- `manual::put_codes` meets its promise: behind the heading, code by code, each row is put.
-use Prim.Native.Nat.{◌+◌, ◌*◌, ◌-◌, ◌≤◌}
 use mathlib.Core.Path.{◌≡◌, ◌∙◌}
 use native.Mathlib.Omega.{arith}
-use Rattle.rules.specs.steps.Codes.{plain_sheet}
-use Rattle.text.specs.Bytes.{in_turn}
-use Rattle.text.specs.Lies.{Puts}
 use Rattle.text.proofs.Puts.{puts_both, in_turn_none, in_turn_more, puts_whole}
-use Rattle.manual.specs.Page.{row_text, head_bytes, row_bytes}
 use Rattle.manual.proofs.put_codes.Goals as goal
 
 pub put_head-end-requires : goal.put_head-end-requires
@@ -27,7 +22,7 @@ pub shape_of-buffer : goal.shape_of-buffer
 shape_of-buffer c = let head = c.put_head-end.ensures.puts in c.loop-code.invariant.2.size ∙ head.size
 
 pub returns : goal.returns
-returns c = 
+returns c =
     let loop = c.loop-code in
     let head = c.put_head-end.ensures.puts in
     let all : loop.code ≡ 256 = omega arith in

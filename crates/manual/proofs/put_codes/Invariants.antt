@@ -1,13 +1,12 @@
 -- `manual::put_codes` meets its promise: behind the heading, code by code, each row is put.
-use Prim.Native.Nat.{◌+◌, ◌*◌, ◌-◌, ◌≤◌}
-use mathlib.Core.Path.{◌≡◌, ◌∙◌}
-use native.Mathlib.Omega.{arith}
+use Prim.Native.Nat.{◌+◌, ◌*◌, ◌≤◌}
 use Rattle.rules.specs.steps.Codes.{plain_sheet}
 use Rattle.text.specs.Bytes.{in_turn}
 use Rattle.text.specs.Lies.{Puts}
-use Rattle.text.proofs.Puts.{puts_both, in_turn_none, in_turn_more, puts_whole}
 use Rattle.manual.specs.Page.{row_text, head_bytes, row_bytes}
 use Rattle.manual.proofs.put_codes.Given as goal
 
 abbrev pub invariant-loop-code : goal.invariant-loop-code
-invariant-loop-code l = (l.code ≤ 256) × (l.end ≤ head_bytes + l.code * row_bytes) × Puts (in_turn l.code (λ k. row_text k (plain_sheet k))) l.initial.end l.end l.initial.buffer l.buffer
+invariant-loop-code l =
+    (l.code ≤ 256) × (l.end ≤ head_bytes + l.code * row_bytes) × Puts (in_turn l.code (λ k. row_text k (plain_sheet k))) l.initial.end l.end
+    l.initial.buffer l.buffer

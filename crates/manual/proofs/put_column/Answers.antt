@@ -2,7 +2,6 @@
 use Prim.Native.Nat.{◌+◌, ◌≤◌}
 use native.Mathlib.Omega.{arith}
 use lib.ListN.{length}
-use borrow.Author.Rules.{rules}
 use Rattle.text.specs.Bytes.{decimal}
 use Rattle.text.proofs.Puts.{puts_both}
 use Rattle.manual.proofs.Columns.{column_short}
@@ -27,6 +26,6 @@ put_text-requires c = (omega (arith, number_end (goal.at.put_text-requires c).Af
 
 pub returns : goal.returns
 returns c = record {
-      puts = puts_both (puts_both c.put_margin-barred.ensures c.put_number-counted.ensures.puts) c.put_text.ensures;
-      upper_bound = omega (arith, number_end (goal.at.returns c).After-put_number-counted, c.put_text.ensures.ends);
-    }
+  puts = puts_both (puts_both c.put_margin-barred.ensures c.put_number-counted.ensures.puts) c.put_text.ensures;
+  upper_bound = omega (arith, number_end (goal.at.returns c).After-put_number-counted, c.put_text.ensures.ends);
+}

@@ -1,6 +1,5 @@
 -- `manual::put_margin` meets its contract: one digit, two, or more.
 use native.Mathlib.Omega.{arith}
-use borrow.Author.Rules.{rules}
 use Rattle.manual.proofs.Columns.{one_digit, two_digits, more_digits}
 use Rattle.manual.proofs.put_margin.Goals as goal
 

@@ -2,7 +2,6 @@
 use Prim.Native.Nat.{◌≤◌}
 use mathlib.Core.Path.{ap, ◌∙◌}
 use native.Mathlib.Omega.{arith}
-use borrow.Author.Rules.{rules}
 use Rattle.text.proofs.Puts.{puts_both}
 use Rattle.checks.specs.Entries.{cell_named}
 use Rattle.checks.proofs.Tables.{plain_fits}
@@ -18,13 +17,19 @@ pub overflow_cast-cell_named : goal.overflow_cast-cell_named
 overflow_cast-cell_named c = record { fits = omega (arith, cell_small (goal.at.overflow_cast-cell_named c).After-cell_named) }
 
 pub put_column-placed-requires : goal.put_column-placed-requires
-put_column-placed-requires c = (omega (arith, c.put_column-coded.ensures.upper_bound, c.put_step-named.ensures.value, c.requires.0), omega (arith, cell_small (goal.at.put_column-placed-requires c).After-cell_named))
+put_column-placed-requires c = (
+  omega (arith, c.put_column-coded.ensures.upper_bound, c.put_step-named.ensures.value, c.requires.0),
+  omega
+      (arith, cell_small (goal.at.put_column-placed-requires c).After-cell_named),
+)
 
 pub returns : goal.returns
-returns c = 
+returns c =
     let kind = c.kind_of-kind.ensures.replied in
     let named = c.cell_named.ensures ∙ ap cell_named kind in record {
-      puts = puts_both (puts_both (puts_both c.put_column-coded.ensures.puts (rw kind at c.put_step-named.ensures.puts)) (rw named at c.put_column-placed.ensures.puts))
+      puts =
+          puts_both (puts_both (puts_both c.put_column-coded.ensures.puts (rw kind at c.put_step-named.ensures.puts))
+          (rw named at c.put_column-placed.ensures.puts))
           c.put_text.ensures;
       upper_bound = omega (
         arith,

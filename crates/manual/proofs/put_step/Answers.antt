@@ -1,6 +1,5 @@
 -- `manual::put_step` meets its contract: the words of the six kinds, each nine bytes long.
 use native.Mathlib.Omega.{arith}
-use borrow.Author.Rules.{rules}
 use Rattle.manual.proofs.put_step.Goals as goal
 
 pub returns-in-Begin : goal.returns-in-Begin

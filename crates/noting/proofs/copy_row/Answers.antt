@@ -2,7 +2,6 @@
 use mathlib.Core.Path.{ap, ◌∙◌}
 use mathlib.Core.Logic.{inl}
 use native.Mathlib.Omega.{arith}
-use borrow.Author.Rules.{rules}
 use Rattle.layout.specs.Places.{row_start}
 use Rattle.noting.proofs.Placed.{copied_at}
 use Rattle.noting.proofs.copy_row.Goals as goal

@@ -1,6 +1,5 @@
 -- `noting::empty_row` meets its contract: the row is cleared, and then its head stored.
 use native.Mathlib.Omega.{arith}
-use borrow.Author.Rules.{rules}
 use Rattle.noting.proofs.Placed.{emptied_at}
 use Rattle.noting.proofs.empty_row.Goals as goal
 

@@ -2,7 +2,6 @@
 use native.Mathlib.Omega.{arith}
 use mathlib.Core.Path.{◌≡◌, ◌∙◌}
 use lib.ListN.{length, length-set}
-use borrow.Author.Rules.{rules}
 use Rattle.noting.proofs.Stores.{with_length, commit_stored}
 use Rattle.noting.proofs.note_commit.Goals as goal
 use Rattle.noting.proofs.note_commit.Goals.{After-copy_row}
@@ -30,5 +29,6 @@ empty_row-requires c = let pre = c.requires in
 pub shape_of-words : goal.shape_of-words
 shape_of-words c = let pre = c.requires in
     length-set c.empty_row.new.words 2 _
-    ∙ with_length _ _ _ c.empty_row.ensures (omega (arith, pre.0.long, pre.0.range.handlers, pre.1, copied_length (goal.at.shape_of-words c).After-copy_row))
+    ∙ with_length _ _ _ c.empty_row.ensures
+    (omega (arith, pre.0.long, pre.0.range.handlers, pre.1, copied_length (goal.at.shape_of-words c).After-copy_row))
     ∙ copied_length (goal.at.shape_of-words c).After-copy_row

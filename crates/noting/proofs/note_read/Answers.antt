@@ -1,6 +1,5 @@
 -- `noting::note_read` meets its contract: its source and its value are stored.
 use native.Mathlib.Omega.{arith}
-use borrow.Author.Rules.{rules}
 use lib.ListN.{length-set}
 use Rattle.noting.proofs.Placed.{read_at}
 use Rattle.noting.proofs.note_read.Goals as goal

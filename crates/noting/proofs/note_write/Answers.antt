@@ -1,6 +1,5 @@
 -- `noting::note_write` meets its contract: the cell joins those written, and its value is stored.
 use native.Mathlib.Omega.{arith}
-use borrow.Author.Rules.{rules}
 use lib.ListN.{length-set}
 use Rattle.noting.proofs.Placed.{write_at}
 use Rattle.noting.proofs.note_write.Goals as goal

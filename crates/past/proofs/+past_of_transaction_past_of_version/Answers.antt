@@ -1,6 +1,5 @@
 -- `past::past_of_transaction` and `past::past_of_version`, which call each other, meet their contracts.
 use Rattle.std.proofs.Common.{◌≡◌, sym, ◌∙◌, arith}
-use Rattle.ledger.specs.Entries.{entry_in}
 use Rattle.ledger.proofs.Commits.{last_stood}
 use Rattle.past.proofs.Pasts.{source_stood}
 use Rattle.past.proofs.Asked.{adds_own, adds_cell, closed_cells, adds_opening, adds_again, adds_version}
@@ -25,9 +24,10 @@ past_of_transaction-loop-c-init t c =
 pub past_of_transaction-past_of_version-seen-requires-in-loop-c :
     goal.past_of_transaction-past_of_version-seen-requires-in-loop-c
 past_of_transaction-past_of_version-seen-requires-in-loop-c t c =
-    let stood = source_stood _ _ c.source_of.ensures in
-    (omega (arith, stood),
-    ((omega arith, omega arith, omega (arith, stood)), closed_cells _ _ _ _ _ _ c.requires.closed c.loop-c.invariant.1))
+    let stood = source_stood _ _ c.source_of.ensures in (
+      omega (arith, stood),
+      ((omega arith, omega arith, omega (arith, stood)), closed_cells _ _ _ _ _ _ c.requires.closed c.loop-c.invariant.1),
+    )
 
 -- One more cell.
 pub past_of_transaction-loop-c-preserved : goal.past_of_transaction-loop-c-preserved

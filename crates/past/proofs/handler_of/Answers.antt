@@ -2,7 +2,6 @@
 use Prim.Native.Nat.{ℕ}
 use mathlib.Core.Path.{ap, ◌∙◌}
 use lib.ListN.{get_or}
-use borrow.Author.Rules.{rules}
 use Rattle.layout.specs.Places.{row_start}
 use Rattle.ledger.specs.Entries.{entry_in}
 use Rattle.past.proofs.handler_of.Goals as goal

@@ -1,6 +1,5 @@
 -- `past::is_marked` meets its contract: a mark is the bit below the commit's place.
 use mathlib.Core.Path.{sym}
-use borrow.Author.Rules.{rules}
 use Rattle.layout.specs.Bits.{has_bit}
 use Rattle.past.proofs.Marks.{marked_at}
 use Rattle.past.proofs.is_marked.Goals as goal

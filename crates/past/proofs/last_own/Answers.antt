@@ -1,9 +1,6 @@
 -- `past::last_own` meets its contract: the last place is right among the commits passed.
-use Prim.Native.Nat.{ℕ, ◌-◌, ◌≤◌}
 use mathlib.Core.Path.{◌≡◌, sym, ◌∙◌}
 use native.Mathlib.Omega.{arith}
-use Rattle.rules.specs.history.Past.{last_of}
-use Rattle.ledger.specs.Histories.{commits_in}
 use Rattle.ledger.proofs.Commits.{last_none, last_own, last_other}
 use Rattle.past.proofs.last_own.Goals as goal
 use Rattle.past.proofs.last_own.Goals.{then-handler_of-handler, else-handler_of-handler}

@@ -1,11 +1,8 @@
 -- `past::last_own` meets its contract: the last place is right among the commits passed.
-use Prim.Native.Nat.{ℕ, ◌-◌, ◌≤◌}
-use mathlib.Core.Path.{◌≡◌, sym, ◌∙◌}
-use mathlib.Core.Logic.{⊎_elim}
-use native.Mathlib.Omega.{arith}
+use Prim.Native.Nat.{ℕ, ◌≤◌}
+use mathlib.Core.Path.{◌≡◌}
 use Rattle.rules.specs.history.Past.{last_of}
 use Rattle.ledger.specs.Histories.{commits_in}
-use Rattle.ledger.proofs.Commits.{last_none, last_own, last_other}
 use Rattle.past.proofs.last_own.Given as goal
 
 abbrev pub invariant-loop-earlier : goal.invariant-loop-earlier

@@ -2,7 +2,6 @@
 use Prim.Native.Nat.{◌-◌}
 use mathlib.Core.Path.{◌≡◌, sym, ◌∙◌}
 use native.Mathlib.Omega.{arith}
-use borrow.Author.Rules.{rules}
 use Rattle.layout.specs.Bits.{has_bit, with_bit}
 use Rattle.layout.proofs.Bits.{with_there, with_shifted, shifted_fits}
 use Rattle.past.specs.Marks.{only, Adds}
@@ -20,10 +19,18 @@ told : (c : After-is_marked-there) → c.is_marked-there.result ≡ has_bit c.ar
 told c = c.is_marked-there.ensures ∙ marked_at _ _ c.requires.0
 
 pub overflow_add-result : goal.overflow_add-result
-overflow_add-result c = record { fits = shifted_fits 64 _ _ (omega arith) (sym (told (goal.at.overflow_add-result c).After-is_marked-there) ∙ c.if-there.false) c.ranges.marks.fits }
+overflow_add-result c =
+    record {
+      fits = shifted_fits 64 _ _ (omega arith) (sym (told (goal.at.overflow_add-result c).After-is_marked-there) ∙ c.if-there.false)
+          c.ranges.marks.fits;
+    }
 
 pub returns-then-there : goal.returns-then-there
-returns-then-there c = rw (with_there _ _ (sym (told (goal.at.returns-then-there c).After-is_marked-there) ∙ c.if-there.true)) at (joined (goal.at.returns-then-there c).After-is_marked-there)
+returns-then-there c =
+    rw (with_there _ _ (sym (told (goal.at.returns-then-there c).After-is_marked-there) ∙ c.if-there.true)) at
+    (joined (goal.at.returns-then-there c).After-is_marked-there)
 
 pub returns-else-there : goal.returns-else-there
-returns-else-there c = rw (with_shifted 64 _ _ (omega arith) (sym (told (goal.at.returns-else-there c).After-is_marked-there) ∙ c.if-there.false)) (joined (goal.at.returns-else-there c).After-is_marked-there)
+returns-else-there c =
+    rw (with_shifted 64 _ _ (omega arith) (sym (told (goal.at.returns-else-there c).After-is_marked-there) ∙ c.if-there.false))
+    (joined (goal.at.returns-else-there c).After-is_marked-there)

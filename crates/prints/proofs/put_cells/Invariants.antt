@@ -1,10 +1,6 @@
 -- `prints::put_cells` meets its contract: cell by cell, each line is put.
-use Prim.Native.Nat.{◌+◌, ◌*◌, ◌≤◌, ◌-◌}
-use mathlib.Core.Path.{◌≡◌}
-use native.Mathlib.Omega.{arith}
-use borrow.Author.Rules.{rules}
+use Prim.Native.Nat.{◌+◌, ◌*◌, ◌≤◌}
 use Rattle.text.specs.Lies.{Puts}
-use Rattle.text.proofs.Puts.{in_turn_none, in_turn_more}
 use Rattle.runs.specs.Players.{player_is}
 use Rattle.prints.specs.ByPlaces.{shown_cells}
 use Rattle.prints.proofs.put_cells.Given as goal

@@ -1,16 +1,13 @@
 -- `prints::put_places` meets its contract: the run is underway at every place, and put whole at the end, or up to where it stops.
-use Prim.Native.Nat.{ℕ, ◌+◌, ◌*◌, ◌≤◌, ◌-◌}
+use Prim.Native.Nat.{ℕ}
 use mathlib.Core.Path.{◌≡◌, refl, sym, ◌∙◌}
 use native.Mathlib.Omega.{arith}
 use lib.ListN.{length}
 use borrow.Author.Rules.{rules}
 use Rattle.lines.specs.Lines.{line_is}
-use Rattle.schedule.specs.Taking.{at_start}
-use Rattle.runs.specs.Players.{player_is}
-use Rattle.runs.specs.ByPlaces.{places_from}
 use Rattle.runs.specs.Stopping.{stops_at}
 use Rattle.runs.proofs.Apart.{stops_anywhere}
-use Rattle.prints.proofs.Underway.{Underway, underway_start, underway_more, underway_last, underway_end}
+use Rattle.prints.proofs.Underway.{underway_start, underway_more, underway_last, underway_end}
 use Rattle.prints.proofs.put_places.Goals as goal
 use Rattle.prints.proofs.put_places.Goals.{After-stops_at}
 
@@ -36,10 +33,12 @@ pub shape_of-buffer-then-stops_at : goal.shape_of-buffer-then-stops_at
 shape_of-buffer-then-stops_at c = c.put_place-end.ensures.puts.size ∙ c.loop-place.invariant.3.puts.size
 
 pub returns-then-stops_at : goal.returns-then-stops_at
-returns-then-stops_at c = 
+returns-then-stops_at c =
     let loop = c.loop-place in
     let line = c.put_place-end.ensures in record {
-      places_put = underway_last (omega arith) loop.invariant.3 c.play_place-placed.ensures line.puts (stops (goal.at.returns-then-stops_at c).After-stops_at ∙ c.if-stops_at.true);
+      places_put =
+          underway_last (omega arith) loop.invariant.3 c.play_place-placed.ensures line.puts
+          (stops (goal.at.returns-then-stops_at c).After-stops_at ∙ c.if-stops_at.true);
       end_bound = omega (arith, loop.invariant.1, line.upper_bound);
     }
 
@@ -49,7 +48,8 @@ loop-place-preserved c = let loop = c.loop-place in
       omega arith,
       omega (arith, loop.invariant.1, line.upper_bound),
       still_long _ (length loop.words) _ (search rules) loop.invariant.2,
-      underway_more (omega arith) loop.invariant.3 c.play_place-placed.ensures line.puts (stops (goal.at.loop-place-preserved c).After-stops_at ∙ c.if-stops_at.false),
+      underway_more (omega arith) loop.invariant.3 c.play_place-placed.ensures line.puts
+          (stops (goal.at.loop-place-preserved c).After-stops_at ∙ c.if-stops_at.false),
     )
 
 pub shape_of-words : goal.shape_of-words
@@ -60,4 +60,5 @@ shape_of-buffer c = c.loop-place.invariant.3.puts.size
 
 pub returns : goal.returns
 returns c = let loop = c.loop-place in
-    let all : c.args.places ≡ loop.place = omega arith in record { places_put = underway_end all loop.invariant.3; end_bound = omega (arith, loop.invariant.1, all) }
+    let all : c.args.places ≡ loop.place = omega arith in record
+    { places_put = underway_end all loop.invariant.3; end_bound = omega (arith, loop.invariant.1, all) }

@@ -1,7 +1,6 @@
 -- `prints::put_run` meets its contract: header and lines, and the cells where the run came to its end.
 use Prim.Native.Nat.{◌≤◌}
 use native.Mathlib.Omega.{arith}
-use borrow.Author.Rules.{rules}
 use borrow.Author.Tests.{not-true, not-false}
 use Rattle.schedule.proofs.Nexts.{places_few}
 use Rattle.prints.proofs.Runs.{run_stopped, run_whole}
@@ -24,7 +23,7 @@ put_places-told-requires c = let places = c.order_places-places.ensures.replied 
     (omega (arith, c.put_header-headed.ensures.upper_bound), omega (arith, places, places_few c.args.file.now))
 
 pub returns-then-not-told : goal.returns-then-not-told
-returns-then-not-told c = 
+returns-then-not-told c =
     let header = c.put_header-headed.ensures.puts in
     let places = c.order_places-places.ensures.replied in
     let lines = c.put_places-told.ensures.places_put in record {
@@ -36,7 +35,7 @@ pub put_cells-requires : goal.put_cells-requires
 put_cells-requires c = (omega (arith, lines_end (goal.at.put_cells-requires c).After-put_places-told), c.requires)
 
 pub returns : goal.returns
-returns c = 
+returns c =
     let cells = c.put_cells.ensures in
     let header = c.put_header-headed.ensures.puts in
     let places = c.order_places-places.ensures.replied in

@@ -4,8 +4,6 @@ use mathlib.Core.Path.{◌≡◌, sym, ◌∙◌}
 use mathlib.Core.Bool.{true}
 use native.Mathlib.Omega.{arith}
 use lib.ListN.{length}
-use borrow.Author.Rules.{rules}
-use borrow.Author.Tests.{not-true, not-false}
 use Rattle.layout.specs.Places.{cells_of, handlers_of, cell_start, cell_long}
 use Rattle.layout.specs.WellFormed.{is_well_formed}
 use Rattle.layout.proofs.Tested.{tested}
@@ -39,7 +37,12 @@ fits : (c : Else-words-c) → let args = c.args in
     2 + cell_start (cells_of args.words.now) args.c + cell_long (cells_of args.words.now) ≤ length args.words.now
 fits c =
     let words = c.args.words.now in
-    omega (arith, cell_fits (cells_of words) (handlers_of words) _ (inside c), well_long ((tested _).0 (sym c.well_formed-2.ensures ∙ c.if-not-well_formed.false)))
+    omega (
+      arith,
+      cell_fits (cells_of words) (handlers_of words) _ (inside c),
+      well_long
+          ((tested _).0 (sym c.well_formed-2.ensures ∙ c.if-not-well_formed.false)),
+    )
 
 pub returns-then-not-well_formed : goal.returns-then-not-well_formed
 returns-then-not-well_formed c = end_malformed _ _ (sym c.well_formed-2.ensures ∙ c.if-not-well_formed.true)
@@ -69,7 +72,8 @@ pub overflow_add-number-2 : goal.overflow_add-number-2
 overflow_add-number-2 c = omega (arith, small (goal.at.overflow_add-number-2 c).Else-words-c, inside (goal.at.overflow_add-number-2 c).Else-words-c)
 
 pub offset_bounds-words-start : goal.offset_bounds-words-start
-offset_bounds-words-start c = omega (arith, small (goal.at.offset_bounds-words-start c).Else-words-c, inside (goal.at.offset_bounds-words-start c).Else-words-c)
+offset_bounds-words-start c =
+    omega (arith, small (goal.at.offset_bounds-words-start c).Else-words-c, inside (goal.at.offset_bounds-words-start c).Else-words-c)
 
 pub bounds-words-start : goal.bounds-words-start
 bounds-words-start c = omega (arith, fits (goal.at.bounds-words-start c).Else-words-c, inside (goal.at.bounds-words-start c).Else-words-c)
@@ -84,4 +88,6 @@ pub bounds-words-start-2 : goal.bounds-words-start-2
 bounds-words-start-2 c = omega (arith, fits (goal.at.bounds-words-start-2 c).Else-words-c)
 
 pub returns : goal.returns
-returns c = end_shown _ _ (formed (goal.at.returns c).Else-not-well_formed) (inside (goal.at.returns c).Else-words-c) c.cell_at-span.ensures.starts (omega arith) c.version_shows-content.ensures.replied
+returns c =
+    end_shown _ _ (formed (goal.at.returns c).Else-not-well_formed) (inside (goal.at.returns c).Else-words-c) c.cell_at-span.ensures.starts
+    (omega arith) c.version_shows-content.ensures.replied

@@ -6,8 +6,6 @@ use mathlib.Core.List.{◌∷◌}
 use native.Mathlib.Omega.{arith}
 use lib.ListN.{length, set, length-set, length-drop}
 use borrow.Rule.Slice.PartMut.{put_mid}
-use borrow.Author.Rules.{rules}
-use borrow.Author.Tests.{not-true, not-false}
 use Rattle.rules.specs.steps.Replies.{ready}
 use Rattle.rules.specs.steps.Register.{zeros}
 use Rattle.rules.specs.steps.Checks.{in_range}
@@ -75,9 +73,16 @@ bounds-words-1 c = simp length-set (omega (arith, ap length (back (goal.at.bound
 
 pub shape_of-words : goal.shape_of-words
 shape_of-words c = simp length-set (ap length (back (goal.at.shape_of-words c).After-clear)
-    ∙ (omega (arith, (cleared (goal.at.shape_of-words c).After-clear).untouched.size, length-drop 2 c.args.words.now, enough (goal.at.shape_of-words c).After-clear)))
+    ∙ (omega (
+      arith,
+      (cleared (goal.at.shape_of-words c).After-clear).untouched.size,
+      length-drop 2 c.args.words.now,
+      enough
+          (goal.at.shape_of-words c).After-clear,
+    )))
 
 pub returns : goal.returns
 returns c = let args = c.args in
     subst (λ words. OpeningPromise args.words.now args.m args.n ready (set (set words 0 args.m) 1 args.n)) (sym (back (goal.at.returns c).After-clear))
-    (opening_ready args.words.now args.m args.n (ranged (goal.at.returns c).Else-not-in_range) (enough (goal.at.returns c).After-clear) (cleared_holds _ _ _ _ (cleared (goal.at.returns c).After-clear)))
+    (opening_ready args.words.now args.m args.n (ranged (goal.at.returns c).Else-not-in_range) (enough (goal.at.returns c).After-clear)
+    (cleared_holds _ _ _ _ (cleared (goal.at.returns c).After-clear)))

@@ -1,7 +1,5 @@
 -- `register::step` meets its promise: 10 for words that are no register, and else what the step of those that are one promises.
 use mathlib.Core.Path.{sym, ◌∙◌}
-use borrow.Author.Rules.{rules}
-use borrow.Author.Tests.{not-true, not-false}
 use Rattle.layout.proofs.Tested.{tested}
 use Rattle.checks.proofs.Tables.{entry_tells}
 use Rattle.register.proofs.Stepping.{malformed_stops}

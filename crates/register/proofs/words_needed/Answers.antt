@@ -4,8 +4,6 @@ use mathlib.Core.Bool.{true}
 use mathlib.Core.Option.{some}
 use Prim.Native.Nat.{◌+◌}
 use native.Mathlib.Omega.{arith}
-use borrow.Author.Rules.{rules}
-use borrow.Author.Tests.{not-true, not-false}
 use Rattle.rules.specs.steps.Checks.{in_range}
 use Rattle.layout.proofs.Places.{body_small}
 use Rattle.rules.proofs.steps.Given.{range_tested}
@@ -30,4 +28,10 @@ body_words-requires c = omega (arith, (range_tested _ _).0 (ranged (goal.at.body
 
 pub overflow_add-result : goal.overflow_add-result
 overflow_add-result c = let args = c.args in
-    omega (arith, c.body_words.ensures, body_small args.m args.n (omega (arith, (range_tested _ _).0 (ranged (goal.at.overflow_add-result c).Else-not-in_range))) (omega (arith, (range_tested _ _).0 (ranged (goal.at.overflow_add-result c).Else-not-in_range))))
+    omega (
+      arith,
+      c.body_words.ensures,
+      body_small args.m args.n
+          (omega (arith, (range_tested _ _).0 (ranged (goal.at.overflow_add-result c).Else-not-in_range)))
+          (omega (arith, (range_tested _ _).0 (ranged (goal.at.overflow_add-result c).Else-not-in_range))),
+    )

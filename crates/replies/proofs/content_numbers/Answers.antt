@@ -1,6 +1,5 @@
 -- `replies::content_numbers` meets its contract: what is shown of a cell is the rules' numbers of it.
 use mathlib.Core.Path.{sym, ap}
-use borrow.Author.Rules.{rules}
 use Rattle.rules.specs.steps.Replies.{content_numbers}
 use Rattle.replies.specs.Meaning.{content_is}
 use Rattle.replies.proofs.content_numbers.Goals as goal

@@ -1,7 +1,6 @@
 -- `replies::outcome_numbers` meets its contract: each outcome is the rules' numbers of it.
 use Prim.Native.Nat.{ℕ}
 use mathlib.Core.Path.{◌≡◌, refl, sym, ap, ap₂, ◌∙◌}
-use borrow.Author.Rules.{rules}
 use Rattle.rules.specs.steps.Replies.{Outcome, Numbers, outcome_numbers}
 use Rattle.replies.specs.Meaning.{outcome_is}
 use Rattle.replies.specs.Numbers.{OutcomePromise}

@@ -1,7 +1,6 @@
 -- `rows::put_report` meets its contract: five words, one behind the other.
 use native.Mathlib.Omega.{arith}
 use lib.ListN.{length-set}
-use borrow.Author.Rules.{rules}
 use Rattle.replies.specs.Meaning.{reply_is}
 use Rattle.rows.proofs.Taking.{report_stored}
 use Rattle.rows.proofs.put_report.Goals as goal

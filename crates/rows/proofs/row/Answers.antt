@@ -5,7 +5,6 @@ use mathlib.Core.Bool.{true, false}
 use native.Mathlib.Omega.{arith}
 use lib.Dec.{ltb}
 use lib.ListN.{length}
-use borrow.Author.Rules.{rules}
 use borrow.Author.Tests.{ltb-false, not-true, not-false}
 use Rattle.limits.specs.Limits.{step_width, report_width}
 use Rattle.layout.specs.WellFormed.{is_well_formed}
@@ -32,9 +31,16 @@ returns-then-not-has_room c = row_short _ _ _ _ (formed (goal.at.returns-then-no
 
 pub take_steps-requires : goal.take_steps-requires
 take_steps-requires c = record {
-      table_promise = c.plain_table-table.ensures;
-      well_formed = ((tested _).0 (formed (goal.at.take_steps-requires c).Else-not-well_formed), omega arith, ltb-false _ _ (room (goal.at.take_steps-requires c).Else-not-has_room));
-    }
+  table_promise = c.plain_table-table.ensures;
+  well_formed = (
+    (tested _).0 (formed (goal.at.take_steps-requires c).Else-not-well_formed),
+    omega arith,
+    ltb-false _ _
+        (room (goal.at.take_steps-requires c).Else-not-has_room),
+  );
+}
 
 pub returns : goal.returns
-returns c = row_done _ _ _ _ (formed (goal.at.returns c).Else-not-well_formed) (room (goal.at.returns c).Else-not-has_room) c.take_steps.ensures.0 c.take_steps.ensures.1
+returns c =
+    row_done _ _ _ _ (formed (goal.at.returns c).Else-not-well_formed) (room (goal.at.returns c).Else-not-has_room) c.take_steps.ensures.0
+    c.take_steps.ensures.1

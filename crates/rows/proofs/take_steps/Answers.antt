@@ -1,13 +1,12 @@
 -- `rows::take_steps` meets its contract: step by step, each on a well-formed register, and each reported behind the others.
-use Prim.Native.Nat.{suc, ◌+◌, ◌-◌, ◌*◌, ◌≤◌}
+use Prim.Native.Nat.{suc, ◌+◌, ◌*◌, ◌≤◌}
 use mathlib.Core.Path.{◌≡◌}
 use native.Mathlib.Omega.{arith}
 use lib.ListN.{length}
-use borrow.Author.Rules.{rules}
 use Rattle.limits.specs.Limits.{step_width, report_width}
 use Rattle.replies.specs.Meaning.{reply_is}
 use Rattle.checks.proofs.Tables.{table_tells, plain_fits}
-use Rattle.rows.proofs.Taking.{TakesTo, takes_none, takes_next_lem}
+use Rattle.rows.proofs.Taking.{takes_none, takes_next_lem}
 use Rattle.rows.proofs.take_steps.Goals as goal
 use Rattle.rows.proofs.take_steps.Goals.{In-loop-k}
 
@@ -67,10 +66,11 @@ put_report-requires c = omega (arith, fits (goal.at.put_report-requires c).In-lo
 
 pub loop-k-preserved : goal.loop-k-preserved
 loop-k-preserved c = let told = c.step_formed-turned.ensures _ (table_tells plain_fits c.requires.table_promise _ c.entry_by-entry.ensures) in (
-      omega arith,
-      takes_next_lem _ _ _ _ c.loop-k.k (whole (goal.at.loop-k-preserved c).In-loop-k) (fits (goal.at.loop-k-preserved c).In-loop-k) {reply = reply_is c.answer_of.result} c.loop-k.invariant.1
-          (rw c.answer_of.ensures told.0) told.1 c.put_report.ensures,
-    )
+  omega arith,
+  takes_next_lem _ _ _ _ c.loop-k.k (whole (goal.at.loop-k-preserved c).In-loop-k) (fits (goal.at.loop-k-preserved c).In-loop-k)
+      {reply = reply_is c.answer_of.result} c.loop-k.invariant.1
+      (rw c.answer_of.ensures told.0) told.1 c.put_report.ensures,
+)
 
 pub shape_of-words : goal.shape_of-words
 shape_of-words c = c.loop-k.invariant.1.size

@@ -11,7 +11,7 @@ use mathlib.Core.Option.{some}
 use lib.ListN.{length}
 use lib.Dec.{eqb, ltb}
 use borrow.Author.Tests.{ltb-true, eqb-true, eqb-false, lt-ltb, eq-eqb, ne_eqb, not-true}
-use Rattle.rules.specs.steps.Tables.{lowest, LowestOf}
+use Rattle.rules.specs.steps.Tables.{LowestOf}
 use Rattle.rules.specs.history.History.{Deed, Commit, has_written, place_after, writer}
 use Rattle.rules.specs.history.Past.{Stands, last, older, InPast, own, drew, before, UpTo, itself, behind, Later, Outdated, Tears}
 use Rattle.rules.specs.history.Past.{has_read_from, follows, in_past, up_to, later, outdated, tears_at}

@@ -2,7 +2,7 @@
 -- number grows by a stamp alone, and a number of 65,535 is not stamped.
 use Prim.Native.Nat.{ℕ, ◌≤◌, ◌<◌}
 use mathlib.Core.Path.{◌≡◌}
-use mathlib.Core.Bool.{Bool, true, false}
+use mathlib.Core.Bool.{Bool, true}
 use native.Mathlib.Omega.{arith}
 use mathlib.Core.Option.{none}
 use borrow.Author.Tests.{eqb-false}

@@ -92,7 +92,8 @@ module _ {W U : Type 0} (f : W → U) where
 
     -- Where a check decides.
     unless_mapped : (o : Option Reason) (result : Result W) {mapped : Result U} → mapped ≡ map_result result
-        → unless_aborted (map_setting S) (map_register r) i (map_handler (r.handlers i)) o mapped ≡ map_result (unless_aborted S r i (r.handlers i) o result)
+        → unless_aborted (map_setting S) (map_register r) i (map_handler (r.handlers i)) o mapped ≡ map_result
+        (unless_aborted S r i (r.handlers i) o result)
     unfolding unless_aborted
     unless_mapped none result e = e
     unless_mapped (some reason) result e = ended_mapped reason

@@ -1,5 +1,5 @@
 -- The five steps, after Figure 1 of PI 1923 and docs/RULES.md: begin, read, write, try as one step, and give up, which the figure has not.
-use Rattle.std.specs.Prelude.{ℕ, ◌+◌, max, Bool, true, not, ◌&&◌, ◌||◌, List, [], ◌∷◌, eqb, ltb}
+use Rattle.std.specs.Prelude.{ℕ, ◌+◌, max, true, not, ◌&&◌, ◌||◌, List, [], ◌∷◌, eqb, ltb}
 use Rattle.std.proofs.Math.Option.{Option, none, some}
 use Rattle.rules.specs.steps.Tables.{if◌then◌else◌, put, lowest}
 use Rattle.rules.specs.steps.Codes.{Step, begin, try, give_up, read, write}

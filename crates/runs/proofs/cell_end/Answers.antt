@@ -1,5 +1,4 @@
 -- `runs::cell_end` meets its promise: the player that is named is asked.
-use borrow.Author.Rules.{rules}
 use Rattle.runs.proofs.Players.{shows_as}
 use Rattle.runs.proofs.cell_end.Goals as goal
 

@@ -2,7 +2,6 @@
 use Prim.Native.Nat.{ℕ}
 use mathlib.Core.Path.{sym, ap, ◌∙◌}
 use lib.Dec.{eqb}
-use borrow.Author.Rules.{rules}
 use Rattle.replies.specs.Meaning.{reply_is}
 use Rattle.runs.specs.Stopping.{says_too_many}
 use Rattle.runs.proofs.is_too_many.Goals as goal

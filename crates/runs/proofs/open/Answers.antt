@@ -1,5 +1,4 @@
 -- `runs::open` meets its promise: the words of the player that is named are opened.
-use borrow.Author.Rules.{rules}
 use Rattle.runs.proofs.Players.{opens_as}
 use Rattle.runs.proofs.open.Goals as goal
 

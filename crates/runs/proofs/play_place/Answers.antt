@@ -1,5 +1,4 @@
 -- `runs::play_place` meets its promise: what the file says comes next is shown.
-use borrow.Author.Rules.{rules}
 use Rattle.runs.proofs.Shows.{place_shows}
 use Rattle.runs.proofs.play_place.Goals as goal
 

@@ -1,5 +1,4 @@
 -- `runs::show_next` meets its contract: a step is asked of the player, and its answer shown.
-use borrow.Author.Rules.{rules}
 use Rattle.runs.proofs.Shows.{shown_as, rejected_shown, over_shown, refused_shown, asked_shown}
 use Rattle.runs.proofs.show_next.Goals as goal
 

@@ -1,5 +1,4 @@
 -- `runs::step` meets its promise: the player that is named is asked.
-use borrow.Author.Rules.{rules}
 use Rattle.runs.proofs.Players.{steps_as}
 use Rattle.runs.proofs.step.Goals as goal
 

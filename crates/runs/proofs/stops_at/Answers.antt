@@ -1,6 +1,5 @@
 -- `runs::stops_at` meets its promise: only the answer to a step is asked.
 use mathlib.Core.Path.{refl, sym, ap, ◌∙◌}
-use borrow.Author.Rules.{rules}
 use Rattle.runs.specs.Stopping.{stops_shown}
 use Rattle.runs.proofs.stops_at.Goals as goal
 

@@ -2,8 +2,6 @@
 use mathlib.Core.Path.{◌≡◌, sym, ◌∙◌}
 use mathlib.Core.Bool.{true}
 use native.Mathlib.Omega.{arith}
-use borrow.Author.Rules.{rules}
-use borrow.Author.Tests.{not-true, not-false}
 use Rattle.schedule.specs.Sound.{is_sound_file}
 use Rattle.schedule.proofs.Sounds.{file_tested, head_there}
 use Rattle.schedule.proofs.Admits.{admitted_bad, admitted_spoilt, admitted_sound}
@@ -21,7 +19,8 @@ pub whole_scripts-requires : goal.whole_scripts-requires
 whole_scripts-requires c = (file_tested _).0 (sound (goal.at.whole_scripts-requires c).Else-not-sound_file)
 
 pub returns-then-not-whole_scripts : goal.returns-then-not-whole_scripts
-returns-then-not-whole_scripts c = admitted_spoilt (sound (goal.at.returns-then-not-whole_scripts c).Else-not-sound_file) (sym c.whole_scripts.ensures ∙ c.if-not-whole_scripts.true)
+returns-then-not-whole_scripts c =
+    admitted_spoilt (sound (goal.at.returns-then-not-whole_scripts c).Else-not-sound_file) (sym c.whole_scripts.ensures ∙ c.if-not-whole_scripts.true)
 
 pub bounds-file-0 : goal.bounds-file-0
 bounds-file-0 c = omega (arith, head_there ((file_tested _).0 (sound (goal.at.bounds-file-0 c).Else-not-sound_file)))

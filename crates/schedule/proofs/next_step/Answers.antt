@@ -1,6 +1,5 @@
 -- `schedule::next_step` meets its promise: what the order place holds decides, and the handler that it names.
 use mathlib.Core.Path.{◌≡◌, subst}
-use borrow.Author.Rules.{rules}
 use Rattle.schedule.specs.Fronts.{OrderOf}
 use Rattle.schedule.specs.declared.taking.Order.{Order}
 use Rattle.schedule.proofs.Sounds.{file_tested}

@@ -1,9 +1,6 @@
 -- `schedule::script` meets its promise: the part of the file where the script lies.
-use Prim.Native.Nat.{◌+◌, ◌≤◌}
 use native.Mathlib.Omega.{arith}
 use mathlib.Core.Path.{refl}
-use lib.ListN.{length}
-use borrow.Author.Rules.{rules}
 use Rattle.schedule.proofs.Sounds.{part_lent}
 use Rattle.schedule.proofs.Finds.{part_inside}
 use Rattle.schedule.proofs.script.Goals as goal

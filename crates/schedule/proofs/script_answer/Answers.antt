@@ -2,8 +2,6 @@
 use mathlib.Core.Path.{◌≡◌, sym, ◌∙◌}
 use mathlib.Core.Bool.{true}
 use native.Mathlib.Omega.{arith}
-use borrow.Author.Rules.{rules}
-use borrow.Author.Tests.{not-true, not-false}
 use Rattle.schedule.specs.Sound.{is_sound_file}
 use Rattle.schedule.proofs.Sounds.{file_tested, head_there}
 use Rattle.schedule.proofs.Finds.{answer_bad, answer_beyond, answer_found}

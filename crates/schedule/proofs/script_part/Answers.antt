@@ -1,7 +1,6 @@
 -- `schedule::script_part` meets its promise: the table's entry where the script is found, and else 0 and 0.
 use mathlib.Core.Path.{◌≡◌, subst}
 use native.Mathlib.Omega.{arith}
-use borrow.Author.Rules.{rules}
 use Rattle.schedule.specs.Finding.{AnswerPromise}
 use Rattle.schedule.specs.Meaning.{found_is}
 use Rattle.schedule.specs.declared.Found.{Found}

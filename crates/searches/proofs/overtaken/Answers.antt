@@ -1,14 +1,9 @@
 -- `searches::overtaken` meets its contract: each cell that was passed has as its own number the one that is held.
-use Prim.Native.Nat.{ℕ, ◌+◌}
 use mathlib.Core.Path.{ap}
-use mathlib.Core.Bool.{Bool, not}
-use mathlib.Core.List.{List}
+use mathlib.Core.Bool.{not}
 use native.Mathlib.Omega.{arith}
-use lib.Dec.{eqb}
-use lib.ListN.{get_or}
 use borrow.Author.Tests.{eq-eqb, ne_eqb}
-use Rattle.layout.specs.Places.{own_at}
-use Rattle.searches.proofs.Cells.{Searched, Looked, search_begins, search_misses, cell_inside, own_inside, search_finds, search_goes}
+use Rattle.searches.proofs.Cells.{Looked, search_begins, search_misses, cell_inside, own_inside, search_finds, search_goes}
 use Rattle.searches.proofs.overtaken.Invariants.{asked}
 use Rattle.searches.proofs.overtaken.Goals as goal
 use Rattle.searches.proofs.overtaken.Goals.{After-lowest-z}
@@ -44,7 +39,8 @@ pub overflow_cast-result : goal.overflow_cast-result
 overflow_cast-result c = let at = looked (goal.at.overflow_cast-result c).After-lowest-z in record { fits = omega (arith, cell_inside at, at.among.few) }
 
 pub returns-then-body-held : goal.returns-then-body-held
-returns-then-body-held c = search_finds (looked (goal.at.returns-then-body-held c).After-lowest-z) (ap not (ne_eqb _ _ (rw c.own_number-own.ensures at c.if-body-held.true)))
+returns-then-body-held c =
+    search_finds (looked (goal.at.returns-then-body-held c).After-lowest-z) (ap not (ne_eqb _ _ (rw c.own_number-own.ensures at c.if-body-held.true)))
 
 pub without-left-requires : goal.without-left-requires
 without-left-requires c = let least = c.lowest-z.ensures in (least.low, least.inside)
@@ -53,7 +49,9 @@ pub loop-left-smaller : goal.loop-left-smaller
 loop-left-smaller c = c.without-left.ensures.less
 
 pub loop-left-preserved : goal.loop-left-preserved
-loop-left-preserved c = search_goes (looked (goal.at.loop-left-preserved c).After-lowest-z) c.without-left.ensures (ap not (eq-eqb _ _ (rw c.own_number-own.ensures at c.if-body-held.false)))
+loop-left-preserved c =
+    search_goes (looked (goal.at.loop-left-preserved c).After-lowest-z) c.without-left.ensures
+    (ap not (eq-eqb _ _ (rw c.own_number-own.ensures at c.if-body-held.false)))
 
 pub returns : goal.returns
 returns c = search_misses _ c.loop-left.invariant (omega arith)

@@ -1,14 +1,11 @@
 -- `searches::overtaken` meets its contract: each cell that was passed has as its own number the one that is held.
 use Prim.Native.Nat.{ℕ, ◌+◌}
-use mathlib.Core.Path.{ap}
 use mathlib.Core.Bool.{Bool, not}
 use mathlib.Core.List.{List}
-use native.Mathlib.Omega.{arith}
 use lib.Dec.{eqb}
 use lib.ListN.{get_or}
-use borrow.Author.Tests.{eq-eqb, ne_eqb}
 use Rattle.layout.specs.Places.{own_at}
-use Rattle.searches.proofs.Cells.{Searched, Looked, search_begins, search_misses, cell_inside, own_inside, search_finds, search_goes}
+use Rattle.searches.proofs.Cells.{Searched}
 use Rattle.searches.proofs.overtaken.Given as goal
 
 -- What is asked of a cell of the set.

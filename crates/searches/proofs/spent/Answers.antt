@@ -1,13 +1,7 @@
 -- `searches::spent` meets its contract: no cell that was passed has 65,535 as its own number.
-use Prim.Native.Nat.{ℕ}
-use mathlib.Core.Bool.{Bool}
-use mathlib.Core.List.{List}
 use native.Mathlib.Omega.{arith}
-use lib.Dec.{eqb}
-use lib.ListN.{get_or}
 use borrow.Author.Tests.{eq-eqb, ne_eqb}
-use Rattle.layout.specs.Places.{own_at}
-use Rattle.searches.proofs.Cells.{Searched, Looked, search_begins, search_misses, cell_inside, own_inside, search_finds, search_goes}
+use Rattle.searches.proofs.Cells.{Looked, search_begins, search_misses, cell_inside, own_inside, search_finds, search_goes}
 use Rattle.searches.proofs.spent.Invariants.{asked}
 use Rattle.searches.proofs.spent.Goals as goal
 use Rattle.searches.proofs.spent.Goals.{After-lowest-z}
@@ -34,7 +28,9 @@ pub overflow_cast-result : goal.overflow_cast-result
 overflow_cast-result c = let at = looked (goal.at.overflow_cast-result c).After-lowest-z in record { fits = omega (arith, cell_inside at, at.among.few) }
 
 pub returns-then-body-own_number-eq-MOST_NUMBER : goal.returns-then-body-own_number-eq-MOST_NUMBER
-returns-then-body-own_number-eq-MOST_NUMBER c = search_finds (looked (goal.at.returns-then-body-own_number-eq-MOST_NUMBER c).After-lowest-z) (eq-eqb _ _ (rw c.own_number.ensures at c.if-body-own_number-eq-MOST_NUMBER.true))
+returns-then-body-own_number-eq-MOST_NUMBER c =
+    search_finds (looked (goal.at.returns-then-body-own_number-eq-MOST_NUMBER c).After-lowest-z)
+    (eq-eqb _ _ (rw c.own_number.ensures at c.if-body-own_number-eq-MOST_NUMBER.true))
 
 pub without-left-requires : goal.without-left-requires
 without-left-requires c = let least = c.lowest-z.ensures in (least.low, least.inside)
@@ -43,7 +39,9 @@ pub loop-left-smaller : goal.loop-left-smaller
 loop-left-smaller c = c.without-left.ensures.less
 
 pub loop-left-preserved : goal.loop-left-preserved
-loop-left-preserved c = search_goes (looked (goal.at.loop-left-preserved c).After-lowest-z) c.without-left.ensures (ne_eqb _ _ (rw c.own_number.ensures at c.if-body-own_number-eq-MOST_NUMBER.false))
+loop-left-preserved c =
+    search_goes (looked (goal.at.loop-left-preserved c).After-lowest-z) c.without-left.ensures
+    (ne_eqb _ _ (rw c.own_number.ensures at c.if-body-own_number-eq-MOST_NUMBER.false))
 
 pub returns : goal.returns
 returns c = search_misses _ c.loop-left.invariant (omega arith)

@@ -2,12 +2,10 @@
 use Prim.Native.Nat.{ℕ}
 use mathlib.Core.Bool.{Bool}
 use mathlib.Core.List.{List}
-use native.Mathlib.Omega.{arith}
 use lib.Dec.{eqb}
 use lib.ListN.{get_or}
-use borrow.Author.Tests.{eq-eqb, ne_eqb}
 use Rattle.layout.specs.Places.{own_at}
-use Rattle.searches.proofs.Cells.{Searched, Looked, search_begins, search_misses, cell_inside, own_inside, search_finds, search_goes}
+use Rattle.searches.proofs.Cells.{Searched}
 use Rattle.searches.proofs.spent.Given as goal
 
 -- What is asked of a cell of the set.

@@ -1,12 +1,7 @@
 -- `searches::torn` meets its contract: no cell that was passed has a number below the other.
-use Prim.Native.Nat.{ℕ, ◌+◌}
-use mathlib.Core.Bool.{Bool}
-use mathlib.Core.List.{List}
 use native.Mathlib.Omega.{arith}
-use lib.Dec.{ltb}
-use lib.ListN.{get_or}
 use borrow.Author.Tests.{lt-ltb, le-ltb}
-use Rattle.searches.proofs.Cells.{Searched, Looked, search_begins, search_misses, cell_inside, search_finds, search_goes}
+use Rattle.searches.proofs.Cells.{Looked, search_begins, search_misses, cell_inside, search_finds, search_goes}
 use Rattle.searches.proofs.torn.Invariants.{asked}
 use Rattle.searches.proofs.torn.Goals as goal
 use Rattle.searches.proofs.torn.Goals.{After-lowest-y}

@@ -2,11 +2,9 @@
 use Prim.Native.Nat.{ℕ, ◌+◌}
 use mathlib.Core.Bool.{Bool}
 use mathlib.Core.List.{List}
-use native.Mathlib.Omega.{arith}
 use lib.Dec.{ltb}
 use lib.ListN.{get_or}
-use borrow.Author.Tests.{lt-ltb, le-ltb}
-use Rattle.searches.proofs.Cells.{Searched, Looked, search_begins, search_misses, cell_inside, search_finds, search_goes}
+use Rattle.searches.proofs.Cells.{Searched}
 use Rattle.searches.proofs.torn.Given as goal
 
 -- What is asked of a cell of the set.

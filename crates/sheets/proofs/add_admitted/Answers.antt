@@ -1,6 +1,5 @@
 -- `sheets::add_admitted` meets its promise: a full sheet is left as it is, and into any other the file's run is counted.
 use mathlib.Core.Path.{sym, ◌∙◌}
-use borrow.Author.Rules.{rules}
 use Rattle.sheets.proofs.Full.{full_none}
 use Rattle.sheets.proofs.Adds.{add_full, add_counted}
 use Rattle.sheets.proofs.add_admitted.Goals as goal

@@ -1,7 +1,6 @@
 -- `sheets::add_file` meets its promise: words that are too few and a file that is refused are left as they are; any other file is added.
 use mathlib.Core.Path.{sym, ap, ◌∙◌}
 use native.Mathlib.Omega.{arith}
-use borrow.Author.Rules.{rules}
 use Rattle.schedule.specs.Meaning.{admission_is}
 use Rattle.sheets.proofs.Adds.{add_short, add_bad}
 use Rattle.sheets.proofs.add_file.Goals as goal

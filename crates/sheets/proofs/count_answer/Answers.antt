@@ -1,6 +1,5 @@
 -- `sheets::count_answer` meets its contract: the row of the handler is read, brought up to date and put back, where it has one.
 use native.Mathlib.Omega.{arith}
-use borrow.Author.Rules.{rules}
 use Rattle.sheets.proofs.Answers.{answer_beyond, row_room, answer_counted}
 use Rattle.sheets.proofs.count_answer.Goals as goal
 

@@ -1,5 +1,4 @@
 -- `sheets::count_place` meets its contract: an answer is counted, and where no step was taken there is nothing to count.
-use borrow.Author.Rules.{rules}
 use Rattle.sheets.proofs.Answers.{nothing_counted, no_step_counted}
 use Rattle.sheets.proofs.count_place.Goals as goal
 

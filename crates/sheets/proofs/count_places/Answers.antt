@@ -1,13 +1,10 @@
 -- `sheets::count_places` meets its contract: the run is underway at every place, and counted whole at the end.
-use Prim.Native.Nat.{ℕ, ◌-◌, ◌≤◌}
+use Prim.Native.Nat.{ℕ}
 use mathlib.Core.Path.{◌≡◌, refl, ◌∙◌}
 use native.Mathlib.Omega.{arith}
 use lib.ListN.{length}
 use borrow.Author.Rules.{rules}
-use Rattle.schedule.specs.Taking.{at_start}
-use Rattle.runs.specs.Players.{the_register}
-use Rattle.runs.specs.ByPlaces.{places_from}
-use Rattle.sheets.proofs.Underway.{Underway, underway_start, underway_room, underway_more, underway_end}
+use Rattle.sheets.proofs.Underway.{underway_start, underway_room, underway_more, underway_end}
 use Rattle.sheets.proofs.count_places.Goals as goal
 
 -- What is as long as what was as long as at first.

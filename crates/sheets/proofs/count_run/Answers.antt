@@ -1,7 +1,6 @@
 -- `sheets::count_run` meets its contract: on words that are enough for every register, the places counted are the file's run.
 use mathlib.Core.Path.{ap, ◌∙◌}
 use native.Mathlib.Omega.{arith}
-use borrow.Author.Rules.{rules}
 use Rattle.schedule.proofs.Nexts.{places_few}
 use Rattle.sheets.specs.Sheets.{with_lines}
 use Rattle.sheets.proofs.Admitted.{admitted_lines}

@@ -1,6 +1,5 @@
 -- `sheets::counts_at` meets its contract: each field is the word in its column.
 use mathlib.Core.Path.{refl}
-use borrow.Author.Rules.{rules}
 use Rattle.counts.proofs.Columns.{each_column}
 use Rattle.sheets.proofs.counts_at.Goals as goal
 

@@ -1,10 +1,7 @@
 -- `sheets::is_full` meets its contract: no count that was passed lies above the bound, and the first that does decides.
-use Prim.Native.Nat.{ℕ, ◌-◌, ◌≤◌, ◌<◌}
 use native.Mathlib.Omega.{arith}
 use borrow.Author.Count.{below_more}
 use borrow.Author.Tests.{ltb-true, ltb-false}
-use lib.ListN.{get_or}
-use Rattle.sheets.specs.Sheets.{sheet_long, full_above}
 use Rattle.sheets.proofs.Full.{full_at_lem, not_full}
 use Rattle.sheets.proofs.is_full.Goals as goal
 

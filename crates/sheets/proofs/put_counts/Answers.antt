@@ -2,7 +2,6 @@
 use mathlib.Core.Path.{refl}
 use native.Mathlib.Omega.{arith}
 use lib.ListN.{length-set}
-use borrow.Author.Rules.{rules}
 use Rattle.words.proofs.Changes.{changed_none, changed_more}
 use Rattle.counts.specs.Rows.{in_column}
 use Rattle.sheets.proofs.put_counts.Goals as goal

@@ -2,11 +2,10 @@
 use Prim.Native.Nat.{◌+◌, ◌*◌, ◌<◌}
 use native.Mathlib.Omega.{arith}
 use lib.ListN.{length}
-use borrow.Author.Rules.{rules}
 use Rattle.layout.specs.Places.{cell_long}
 use Rattle.layout.proofs.Places.{cell_start_small}
 use Rattle.stores.proofs.Taken.{cell_low}
-use Rattle.stores.proofs.Stamping.{Stamps, own_among, stamps_none, own_kept, stamps_more, stamps_all}
+use Rattle.stores.proofs.Stamping.{own_among, stamps_none, own_kept, stamps_more, stamps_all}
 use Rattle.stores.proofs.stamp.Goals as goal
 use Rattle.stores.proofs.stamp.Goals.{After-own_number-own}
 

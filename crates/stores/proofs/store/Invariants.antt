@@ -1,8 +1,5 @@
 -- `stores::store` meets its contract: the cells taken are stored, and the rows behind the cells are as before.
-use native.Mathlib.Omega.{arith}
-use borrow.Author.Rules.{rules}
-use Rattle.stores.proofs.Taken.{cell_low}
-use Rattle.stores.proofs.Storing.{Storing, storing_none, behind_still, storing_more, storing_all}
+use Rattle.stores.proofs.Storing.{Storing}
 use Rattle.stores.proofs.store.Given as goal
 
 abbrev pub invariant-loop-left : goal.invariant-loop-left

@@ -4,7 +4,6 @@ use mathlib.Core.Logic.{inr}
 use mathlib.Core.Path.{◌∙◌}
 use native.Mathlib.Omega.{arith}
 use lib.ListN.{length-set}
-use borrow.Author.Rules.{rules}
 use Rattle.layout.specs.Places.{cell_long}
 use Rattle.layout.proofs.Places.{cell_ends}
 use Rattle.stores.proofs.Storing.{cell_stored}

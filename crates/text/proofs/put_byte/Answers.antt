@@ -1,6 +1,5 @@
 -- `text::put_byte` meets its contract: a store where there is room, and nothing beyond.
 use native.Mathlib.Omega.{arith}
-use borrow.Author.Rules.{rules}
 use Rattle.text.proofs.Puts.{puts_byte, puts_beyond}
 use Rattle.text.proofs.put_byte.Goals as goal
 

@@ -1,10 +1,7 @@
 -- `text::put_text` meets its contract: byte by byte, the whole text is put.
-use Prim.Native.Nat.{◌+◌, ◌-◌, ◌≤◌}
-use mathlib.Core.Path.{◌≡◌}
-use native.Mathlib.Omega.{arith}
-use lib.ListN.{length, take, length-take}
+use Prim.Native.Nat.{◌≤◌}
+use lib.ListN.{length, take}
 use Rattle.text.specs.Lies.{Puts}
-use Rattle.text.proofs.Puts.{puts_none, puts_next, puts_all}
 use Rattle.text.proofs.put_text.Given as goal
 
 abbrev pub invariant-loop-k : goal.invariant-loop-k

@@ -1,6 +1,5 @@
 -- `turns::answer_of` meets its contract: what a turn came to, with the handler and the code that asked.
 use mathlib.Core.Path.{sym, ap}
-use borrow.Author.Rules.{rules}
 use Rattle.turns.specs.Meaning.{turned_is}
 use Rattle.turns.proofs.answer_of.Goals as goal
 

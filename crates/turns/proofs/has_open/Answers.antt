@@ -1,6 +1,5 @@
 -- `turns::has_open` meets its contract: the handler's phase, and idle where there is no such handler.
 use native.Mathlib.Omega.{arith}
-use borrow.Author.Rules.{rules}
 use Rattle.turns.proofs.Refusing.{beyond_idle}
 use Rattle.turns.proofs.has_open.Goals as goal
 

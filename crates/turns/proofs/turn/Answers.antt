@@ -3,7 +3,6 @@ use mathlib.Core.Path.{◌≡◌, sym, ap, ◌∙◌}
 use mathlib.Core.Bool.{true}
 use mathlib.Core.Option.{none}
 use native.Mathlib.Omega.{arith}
-use borrow.Author.Rules.{rules}
 use Rattle.rules.specs.steps.Checks.{asking, first_hit, step_checks}
 use Rattle.rules.specs.steps.Register.{has_open}
 use Rattle.layout.specs.View.{view}
@@ -26,7 +25,10 @@ said c =
 passes : (c : In-Passes) → let args = c.args in
     first_hit (step_checks (asking true args.m args.n args.handler (kind_is args.kind)
     (has_open ((view args.m args.n args.body.now).handlers args.handler)))) ≡ none
-passes c = sym ((let args = c.args in c.verdict_of-verdict.ensures.replied ∙ ap (λ opened. first_hit (step_checks (asking true args.m args.n args.handler (kind_is args.kind) opened))) c.has_open-opened.ensures)) ∙ ap verdict_is c.in-Passes.is
+passes c =
+    sym ((let args = c.args in c.verdict_of-verdict.ensures.replied ∙ ap
+    (λ opened. first_hit (step_checks (asking true args.m args.n args.handler (kind_is args.kind) opened))) c.has_open-opened.ensures)) ∙ ap
+    verdict_is c.in-Passes.is
 
 pub has_open-opened-requires : goal.has_open-opened-requires
 has_open-opened-requires c = let standing = c.requires in (standing.formed, standing.most)

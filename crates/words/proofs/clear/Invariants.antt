@@ -1,10 +1,7 @@
 -- `words::clear` meets its contract: the words passed are cleared, and no others.
-use Prim.Native.Nat.{◌≤◌, ◌-◌}
-use mathlib.Core.Path.{refl}
-use native.Mathlib.Omega.{arith}
+use Prim.Native.Nat.{◌≤◌}
 use Rattle.rules.specs.steps.Register.{zeros}
 use Rattle.words.specs.Rows.{Changed}
-use Rattle.words.proofs.Changes.{changed_none, changed_more, changed_all}
 use Rattle.words.proofs.clear.Given as goal
 
 abbrev pub invariant-loop-y : goal.invariant-loop-y

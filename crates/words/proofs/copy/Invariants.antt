@@ -1,9 +1,7 @@
 -- `words::copy` meets its contract: the words passed are copied, and none of the row that they come from is changed.
-use Prim.Native.Nat.{◌+◌, ◌≤◌, ◌-◌}
-use native.Mathlib.Omega.{arith}
+use Prim.Native.Nat.{◌+◌, ◌≤◌}
 use lib.ListN.{get_or}
 use Rattle.words.specs.Rows.{Changed}
-use Rattle.words.proofs.Changes.{changed_none, changed_more, changed_all, changed_apart}
 use Rattle.words.proofs.copy.Given as goal
 
 abbrev pub invariant-loop-y : goal.invariant-loop-y

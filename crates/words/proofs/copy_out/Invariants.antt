@@ -1,10 +1,7 @@
 -- `words::copy_out` meets its contract: the words passed are in the row.
-use Prim.Native.Nat.{◌+◌, ◌≤◌, ◌-◌}
-use mathlib.Core.Path.{refl}
-use native.Mathlib.Omega.{arith}
+use Prim.Native.Nat.{◌+◌, ◌≤◌}
 use lib.ListN.{get_or, replicate}
 use Rattle.words.specs.Rows.{Changed}
-use Rattle.words.proofs.Changes.{changed_none, changed_first, changed_all, changed_row}
 use Rattle.words.proofs.copy_out.Given as goal
 
 abbrev pub invariant-loop-y : goal.invariant-loop-y

@@ -1,6 +1,5 @@
 -- `words::has` meets its contract: a bit is read as it is defined.
 use mathlib.Core.Path.{refl}
-use borrow.Author.Rules.{rules}
 use Rattle.layout.specs.Bits.{has_bit}
 use Rattle.words.proofs.has.Goals as goal
 

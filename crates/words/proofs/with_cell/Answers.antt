@@ -1,6 +1,5 @@
 -- `words::with_cell` meets its contract: a cell that is not in the set joins it by a sum that fits a word.
 use mathlib.Core.Path.{sym, ◌∙◌}
-use borrow.Author.Rules.{rules}
 use Rattle.layout.proofs.Bits.{with_there, with_shifted, shifted_fits}
 use Rattle.words.proofs.with_cell.Goals as goal
 

@@ -1,6 +1,5 @@
 -- `checks::kinds::is_beyond` meets its contract: a read or a write names its cell, and no other step names one.
 use mathlib.Core.Path.{sym, ap}
-use borrow.Author.Rules.{rules}
 use Rattle.rules.specs.steps.Checks.{is_beyond}
 use Rattle.checks.specs.Meaning.{kind_is}
 use Rattle.checks.proofs.kinds.is_beyond.Goals as goal

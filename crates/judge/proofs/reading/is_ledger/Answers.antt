@@ -1,8 +1,6 @@
 -- `judge::reading::is_ledger` meets its contract: long enough, m and n in range, and at most 64 commits noted.
 use mathlib.Core.Path.{sym, ◌∙◌}
 use native.Mathlib.Omega.{arith}
-use borrow.Author.Rules.{rules}
-use borrow.Author.Tests.{not-true, not-false}
 use Rattle.judge.proofs.Tests.{ledger_short, ledger_out, ledger_counted}
 use Rattle.judge.proofs.reading.is_ledger.Goals as goal
 

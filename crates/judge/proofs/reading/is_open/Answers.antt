@@ -1,6 +1,5 @@
 -- `judge::reading::is_open` meets its contract: beyond the handlers none, and else by the first word of the handler's row.
 use native.Mathlib.Omega.{arith}
-use borrow.Author.Rules.{rules}
 use Rattle.judge.proofs.Tests.{beyond_idle, phase_told}
 use Rattle.judge.proofs.reading.is_open.Goals as goal
 

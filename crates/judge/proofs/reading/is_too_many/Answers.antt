@@ -4,7 +4,6 @@ use mathlib.Core.Path.{◌≡◌, ap, ◌∙◌}
 use mathlib.Core.Bool.{false}
 use mathlib.Core.List.{List}
 use native.Mathlib.Omega.{arith}
-use borrow.Author.Rules.{rules}
 use Rattle.rules.specs.steps.Codes.{Step, begin, try, give_up, read, write, Kind, known}
 use Rattle.checks.specs.Meaning.{kind_is}
 use Rattle.checks.proofs.OneStep.{for_kind, no_step_lem}
@@ -25,11 +24,11 @@ handler_row-requires c = let ready = c.requires.2 in omega (arith, ready.handler
 
 pub overtaken_cell-requires : goal.overtaken_cell-requires
 overtaken_cell-requires c = let ready = c.requires.2 in (
-      omega (arith, ready.ledger.long),
-      omega (arith, ready.cells, ready.ledger.range.cells),
-      omega (arith, ready.handler, ready.ledger.range.handlers),
-      omega (arith, ready.ledger.few),
-    )
+  omega (arith, ready.ledger.long),
+  omega (arith, ready.cells, ready.ledger.range.cells),
+  omega (arith, ready.handler, ready.ledger.range.handlers),
+  omega (arith, ready.ledger.few),
+)
 
 pub returns-in-Try : goal.returns-in-Try
 returns-in-Try c = let ready = c.requires.2 in

@@ -1,6 +1,5 @@
 -- `judge::taking::attempt` meets its contract: a stale read ends the transaction, and without one it commits.
 use mathlib.Core.Path.{◌≡◌, ap, ◌∙◌}
-use borrow.Author.Rules.{rules}
 use Rattle.words.specs.Sets.{found_is}
 use Rattle.judge.proofs.Answers.{stale_cell, stale_told, takes_overtaken, takes_commit, commit_room}
 use Rattle.judge.proofs.taking.attempt.Goals as goal
@@ -15,8 +14,12 @@ returns-in-Cell c v = takes_overtaken c.requires.ready _ (asked (goal.at.returns
     c.handler_row-row.ensures c.empty_row.ensures
 
 pub note_commit-requires : goal.note_commit-requires
-note_commit-requires c = let pre = c.requires in
-    (pre.ready.ledger, pre.ready.handler, commit_room pre.ready pre.room (asked (goal.at.note_commit-requires c).After-overtaken_cell ∙ ap found_is c.in_default.is))
+note_commit-requires c = let pre = c.requires in (
+  pre.ready.ledger,
+  pre.ready.handler,
+  commit_room pre.ready pre.room
+      (asked (goal.at.note_commit-requires c).After-overtaken_cell ∙ ap found_is c.in_default.is),
+)
 
 pub returns : goal.returns
 returns c v = takes_commit c.requires.ready (asked (goal.at.returns c).After-overtaken_cell ∙ ap found_is c.in_default.is) v c.note_commit.ensures

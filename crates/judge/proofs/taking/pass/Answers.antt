@@ -1,7 +1,6 @@
 -- `judge::taking::pass` meets its contract: one commit too many is refused, and everything else is taken and reported.
 use mathlib.Core.Path.{◌≡◌, sym, ◌∙◌}
 use native.Mathlib.Omega.{arith}
-use borrow.Author.Rules.{rules}
 use Rattle.rules.specs.steps.Codes.{Step, known}
 use Rattle.checks.specs.Meaning.{kind_is}
 use Rattle.judge.proofs.Tests.{too_many}
@@ -21,8 +20,15 @@ pub returns-then-is_too_many : goal.returns-then-is_too_many
 returns-then-is_too_many c s e = pass_stops _ _ s (asked (goal.at.returns-then-is_too_many c).After-is_too_many s e ∙ c.if-is_too_many.true)
 
 pub take-outcome-requires : goal.take-outcome-requires
-take-outcome-requires c = let (s, e, ready) = c.requires in
-    (s, e, record { ready = ready; room = has_room c.args.words.now c.args.handler s (asked (goal.at.take-outcome-requires c).After-is_too_many s e ∙ c.if-is_too_many.false) })
+take-outcome-requires c = let (s, e, ready) = c.requires in (
+  s,
+  e,
+  record {
+    ready = ready;
+    room = has_room c.args.words.now c.args.handler s
+        (asked (goal.at.take-outcome-requires c).After-is_too_many s e ∙ c.if-is_too_many.false);
+  },
+)
 
 pub returns : goal.returns
 returns c s e = pass_takes _ _ s (asked (goal.at.returns c).After-is_too_many s e ∙ c.if-is_too_many.false) (c.take-outcome.ensures s e)

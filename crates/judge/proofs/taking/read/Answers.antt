@@ -1,7 +1,6 @@
 -- `judge::taking::read` meets its contract: what the copy shows, or abort 1, or what the present version shows, which is noted.
 use mathlib.Core.Path.{◌≡◌, ap, ◌∙◌}
 use native.Mathlib.Omega.{arith}
-use borrow.Author.Rules.{rules}
 use Rattle.words.specs.Sets.{found_is}
 use Rattle.judge.proofs.Answers.{touched, torn_by, touched_told, torn_told, takes_again, takes_torn, takes_first}
 use Rattle.judge.proofs.taking.read.Goals as goal
@@ -20,10 +19,14 @@ torn c =
     torn_told pre _ c.handler_row-row.ensures (c.writer_of-place.ensures.writer _ pre.cell) c.torn_cell.ensures
 
 pub returns-then-has_copy : goal.returns-then-has_copy
-returns-then-has_copy c v = takes_again c.requires c.handler_row-row.ensures (c.copy_content.ensures _ c.requires.cell) (asked (goal.at.returns-then-has_copy c).After-has_copy ∙ c.if-has_copy.true) v
+returns-then-has_copy c v =
+    takes_again c.requires c.handler_row-row.ensures (c.copy_content.ensures _ c.requires.cell)
+    (asked (goal.at.returns-then-has_copy c).After-has_copy ∙ c.if-has_copy.true) v
 
 pub returns-in-Cell : goal.returns-in-Cell
-returns-in-Cell c v = takes_torn c.requires (asked (goal.at.returns-in-Cell c).After-has_copy ∙ c.if-has_copy.false) _ (torn (goal.at.returns-in-Cell c).After-torn_cell ∙ ap found_is c.in-Cell.is) v
+returns-in-Cell c v =
+    takes_torn c.requires (asked (goal.at.returns-in-Cell c).After-has_copy ∙ c.if-has_copy.false) _
+    (torn (goal.at.returns-in-Cell c).After-torn_cell ∙ ap found_is c.in-Cell.is) v
     c.handler_row-row.ensures c.empty_row.ensures
 
 pub note_read-requires-clause-row_lt_ledger_rows : goal.note_read-requires-clause-row_lt_ledger_rows
@@ -36,6 +39,8 @@ note_read-requires-clause-row_lt_ledger_rows c =
     )
 
 pub returns : goal.returns
-returns c v = takes_first c.requires (asked (goal.at.returns c).After-has_copy ∙ c.if-has_copy.false) (torn (goal.at.returns c).After-torn_cell ∙ ap found_is c.in_default.is) v _ _ _
+returns c v =
+    takes_first c.requires (asked (goal.at.returns c).After-has_copy ∙ c.if-has_copy.false)
+    (torn (goal.at.returns c).After-torn_cell ∙ ap found_is c.in_default.is) v _ _ _
     (c.writer_of-place.ensures.writer _ c.requires.cell) (c.present_content-content.ensures _ c.requires.cell)
     c.noted_word.ensures c.handler_row-row.ensures c.note_read.ensures

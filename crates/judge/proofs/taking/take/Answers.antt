@@ -3,7 +3,6 @@ use Prim.Native.Nat.{ℕ}
 use mathlib.Core.Path.{◌≡◌, ap}
 use mathlib.Core.List.{List}
 use native.Mathlib.Omega.{arith}
-use borrow.Author.Rules.{rules}
 use Rattle.rules.specs.steps.Codes.{Step, begin, try, give_up, read, write, Kind, known}
 use Rattle.rules.specs.steps.Replies.{Outcome}
 use Rattle.checks.specs.Meaning.{kind_is}

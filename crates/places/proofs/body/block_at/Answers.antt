@@ -1,6 +1,5 @@
 -- `places::body::block_at` meets its contract: with at most 32 cells and 16 handlers no sum or product is large.
 use native.Mathlib.Omega.{arith}
-use borrow.Author.Rules.{rules}
 use Rattle.layout.proofs.Places.{cell_start_small, handler_start_small}
 use Rattle.places.proofs.body.block_at.Goals as goal
 

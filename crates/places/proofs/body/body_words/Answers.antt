@@ -1,7 +1,6 @@
 -- `places::body::body_words` meets its contract: the length and all on the way to it is small.
 use Prim.Native.Nat.{◌≤◌}
 use native.Mathlib.Omega.{arith}
-use borrow.Author.Rules.{rules}
 use Rattle.layout.specs.Places.{body_long}
 use Rattle.layout.proofs.Places.{handler_start_small}
 use Rattle.places.proofs.body.body_words.Goals as goal

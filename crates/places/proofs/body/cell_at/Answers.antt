@@ -1,6 +1,5 @@
 -- `places::body::cell_at` meets its contract: with at most 32 cells no sum or product is large.
 use native.Mathlib.Omega.{arith}
-use borrow.Author.Rules.{rules}
 use Rattle.layout.proofs.Places.{cell_start_small}
 use Rattle.places.proofs.body.cell_at.Goals as goal
 

@@ -1,9 +1,6 @@
 -- `schedule::scripts::in_front` meets its contract: used up, no step, a step with no value, or a write.
-use Prim.Native.Nat.{ℕ}
 use mathlib.Core.Path.{◌≡◌, ap, ◌∙◌}
-use mathlib.Core.List.{List}
 use native.Mathlib.Omega.{arith}
-use borrow.Author.Rules.{rules}
 use Rattle.rules.specs.steps.Codes.{plain_sheet}
 use Rattle.schedule.specs.Bytes.{byte_at}
 use Rattle.schedule.specs.Fronts.{step_bytes}
@@ -22,13 +19,18 @@ pub overflow_cast-code : goal.overflow_cast-code
 overflow_cast-code c = omega (arith, c.type_inv.script c.args.at)
 
 pub returns-then-long-eq0 : goal.returns-then-long-eq0
-returns-then-long-eq0 c = front_unknown c.args.script.now c.args.at (omega arith) (takes (goal.at.returns-then-long-eq0 c).After-step_bytes-long) c.if-long-eq0.true
+returns-then-long-eq0 c =
+    front_unknown c.args.script.now c.args.at (omega arith) (takes (goal.at.returns-then-long-eq0 c).After-step_bytes-long) c.if-long-eq0.true
 
 pub returns-then-script-at-2 : goal.returns-then-script-at-2
-returns-then-script-at-2 c = front_cut c.args.script.now c.args.at (omega arith) (takes (goal.at.returns-then-script-at-2 c).After-step_bytes-long) c.if-long-eq0.false (omega arith)
+returns-then-script-at-2 c =
+    front_cut c.args.script.now c.args.at (omega arith) (takes (goal.at.returns-then-script-at-2 c).After-step_bytes-long) c.if-long-eq0.false
+    (omega arith)
 
 pub returns-then-long-lt5 : goal.returns-then-long-lt5
-returns-then-long-lt5 c = front_short c.args.script.now c.args.at (omega arith) (takes (goal.at.returns-then-long-lt5 c).After-step_bytes-long) c.if-long-eq0.false (omega arith) (omega arith)
+returns-then-long-lt5 c =
+    front_short c.args.script.now c.args.at (omega arith) (takes (goal.at.returns-then-long-lt5 c).After-step_bytes-long) c.if-long-eq0.false
+    (omega arith) (omega arith)
 
 pub returns : goal.returns
 returns c = front_write c.args.script.now c.args.at (omega arith) (takes (goal.at.returns c).After-step_bytes-long) c.if-long-eq0.false (omega arith)

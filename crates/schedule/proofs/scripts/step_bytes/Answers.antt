@@ -1,6 +1,5 @@
 -- `schedule::scripts::step_bytes` meets its contract: the kind decides.
 use mathlib.Core.Path.{sym, ap}
-use borrow.Author.Rules.{rules}
 use Rattle.checks.specs.Meaning.{kind_is}
 use Rattle.schedule.specs.Fronts.{step_bytes}
 use Rattle.schedule.proofs.scripts.step_bytes.Goals as goal

@@ -1,14 +1,9 @@
 -- `schedule::scripts::whole` meets its contract: the script is whole just when what is left of it is.
-use Prim.Native.Nat.{ℕ, ◌-◌, ◌≤◌}
 use mathlib.Core.Path.{◌≡◌, refl, sym, ap, ◌∙◌}
-use mathlib.Core.List.{List}
 use native.Mathlib.Omega.{arith}
-use lib.ListN.{length, drop}
-use borrow.Author.Rules.{rules}
 use Rattle.rules.specs.steps.Codes.{plain_sheet}
 use Rattle.checks.proofs.Tables.{table_tells, plain_fits}
 use Rattle.schedule.specs.Bytes.{byte_at}
-use Rattle.schedule.specs.Scripts.{is_whole}
 use Rattle.schedule.specs.Fronts.{step_bytes}
 use Rattle.schedule.proofs.Wholes.{takes_few, whole_end, whole_unknown, whole_cut, whole_next}
 use Rattle.schedule.proofs.scripts.whole.Goals as goal
@@ -28,18 +23,22 @@ overflow_cast-script c = omega (arith, c.type_inv.script c.loop-at.at)
 
 pub returns-then-long-eq0 : goal.returns-then-long-eq0
 returns-then-long-eq0 c = let there = c.loop-at in
-    sym (there.invariant.1 ∙ whole_unknown c.args.script.now there.at (omega arith) (takes (goal.at.returns-then-long-eq0 c).After-step_bytes-long) c.if-long-eq0.true)
+    sym (there.invariant.1 ∙ whole_unknown c.args.script.now there.at (omega arith) (takes (goal.at.returns-then-long-eq0 c).After-step_bytes-long)
+    c.if-long-eq0.true)
 
 pub overflow_add-at : goal.overflow_add-at
-overflow_add-at c = omega (arith, takes (goal.at.overflow_add-at c).After-step_bytes-long, takes_few (plain_sheet (byte_at c.args.script.now c.loop-at.at)))
+overflow_add-at c =
+    omega (arith, takes (goal.at.overflow_add-at c).After-step_bytes-long, takes_few (plain_sheet (byte_at c.args.script.now c.loop-at.at)))
 
 pub returns-then-script-at : goal.returns-then-script-at
 returns-then-script-at c = let there = c.loop-at in
-    sym (there.invariant.1 ∙ whole_cut c.args.script.now there.at (omega arith) (takes (goal.at.returns-then-script-at c).After-step_bytes-long) c.if-long-eq0.false (omega arith))
+    sym (there.invariant.1 ∙ whole_cut c.args.script.now there.at (omega arith) (takes (goal.at.returns-then-script-at c).After-step_bytes-long)
+    c.if-long-eq0.false (omega arith))
 
 pub loop-at-preserved : goal.loop-at-preserved
 loop-at-preserved c = let there = c.loop-at in
-    let behind = whole_next c.args.script.now there.at (omega arith) (takes (goal.at.loop-at-preserved c).After-step_bytes-long) c.if-long-eq0.false (omega arith) in
+    let behind = whole_next c.args.script.now there.at (omega arith) (takes (goal.at.loop-at-preserved c).After-step_bytes-long) c.if-long-eq0.false
+    (omega arith) in
     (omega arith, there.invariant.1 ∙ behind)
 
 pub returns : goal.returns

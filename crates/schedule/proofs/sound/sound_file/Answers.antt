@@ -1,8 +1,6 @@
 -- `schedule::sound::sound_file` meets its contract: too long, too short for n and m, out of range, or else as its table is.
 use mathlib.Core.Path.{sym, ◌∙◌}
 use native.Mathlib.Omega.{arith}
-use borrow.Author.Rules.{rules}
-use borrow.Author.Tests.{not-true, not-false}
 use Rattle.rules.proofs.steps.Given.{range_tested}
 use Rattle.rules.proofs.steps.Tables.{both_ways}
 use Rattle.schedule.proofs.Sounds.{not_sound_file, head_there, table_answer}

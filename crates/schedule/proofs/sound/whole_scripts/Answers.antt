@@ -1,14 +1,8 @@
 -- `schedule::sound::whole_scripts` meets its contract: the scripts passed are whole.
-use Prim.Native.Nat.{ℕ, ◌-◌, ◌≤◌, ◌<◌}
 use mathlib.Core.Path.{◌≡◌, sym, ap, ◌∙◌}
-use mathlib.Core.Bool.{true}
 use native.Mathlib.Omega.{arith}
 use borrow.Author.Count.{below_more}
-use borrow.Author.Rules.{rules}
-use borrow.Author.Tests.{not-true, not-false}
-use Rattle.rules.specs.steps.Codes.{plain_sheet}
 use Rattle.layout.proofs.Tested.{every_iff}
-use Rattle.checks.specs.Promises.{TablePromise}
 use Rattle.schedule.specs.Sound.{script_in}
 use Rattle.schedule.specs.Scripts.{is_whole}
 use Rattle.schedule.proofs.Sounds.{head_there}
@@ -41,10 +35,10 @@ returns-then-not-whole c = some_fails _ _ c.loop-handler.handler (omega arith)
 
 pub loop-handler-preserved : goal.loop-handler-preserved
 loop-handler-preserved c = let there = c.loop-handler in (
-      omega arith,
-      there.invariant.1,
-      below_more _ _ there.invariant.2 (sym (looked (goal.at.loop-handler-preserved c).After-whole) ∙ c.if-not-whole.false),
-    )
+  omega arith,
+  there.invariant.1,
+  below_more _ _ there.invariant.2 (sym (looked (goal.at.loop-handler-preserved c).After-whole) ∙ c.if-not-whole.false),
+)
 
 pub returns : goal.returns
 returns c = sym ((every_iff _ _).1 (λ h below. c.loop-handler.invariant.2 h (omega arith)))

@@ -2,7 +2,6 @@
 use Prim.Native.Nat.{◌+◌, ◌≤◌}
 use native.Mathlib.Omega.{arith}
 use lib.ListN.{length}
-use borrow.Author.Rules.{rules}
 use Rattle.schedule.proofs.Sounds.{body_inside, part_lent}
 use Rattle.schedule.proofs.table.body.Goals as goal
 use Rattle.schedule.proofs.table.body.Goals.{After-entry-part}

@@ -1,6 +1,4 @@
 -- `schedule::table::entry` meets its contract: the entry lies in the file, and its two numbers are read off it.
-use mathlib.Core.Path.{◌≡◌}
-use borrow.Author.Rules.{rules}
 use Rattle.schedule.proofs.table.entry.Goals as goal
 
 pub returns : goal.returns

@@ -2,7 +2,6 @@
 use Prim.Native.Nat.{◌+◌, ◌≤◌}
 use mathlib.Core.Path.{refl}
 use native.Mathlib.Omega.{arith}
-use borrow.Author.Rules.{rules}
 use Rattle.schedule.specs.Bytes.{byte_at, short_at}
 use Rattle.schedule.proofs.table.short_at.Goals as goal
 use Rattle.schedule.proofs.table.short_at.Goals.{Start}

@@ -1,10 +1,9 @@
 -- `schedule::table::sound_table` meets its contract: the bodies passed begin where they have to, and the next is due where the
 -- last one ended.
-use Prim.Native.Nat.{ℕ, ◌+◌, ◌-◌, ◌≤◌, ◌<◌}
+use Prim.Native.Nat.{◌+◌}
 use mathlib.Core.Path.{◌≡◌, sym, ◌∙◌}
 use native.Mathlib.Omega.{arith}
 use borrow.Author.Count.{below_more}
-use borrow.Author.Rules.{rules}
 use Rattle.schedule.specs.Bytes.{offset_of}
 use Rattle.schedule.specs.Sound.{due_at}
 use Rattle.schedule.proofs.Sounds.{not_sound_table, due_first, due_next, ends_answer}
@@ -33,7 +32,12 @@ pub returns-then-offset-due : goal.returns-then-offset-due
 returns-then-offset-due c = not_sound_table (λ sound. omega (arith, sound.placed c.loop-k.k (omega arith)))
 
 pub loop-k-preserved : goal.loop-k-preserved
-loop-k-preserved c = (omega arith, next (goal.at.loop-k-preserved c).After-short_at, below_more _ _ c.loop-k.invariant.2 (passed (goal.at.loop-k-preserved c).Else-offset-due))
+loop-k-preserved c = (
+  omega arith,
+  next (goal.at.loop-k-preserved c).After-short_at,
+  below_more _ _ c.loop-k.invariant.2
+      (passed (goal.at.loop-k-preserved c).Else-offset-due),
+)
 
 pub returns : goal.returns
 returns c = let all : c.loop-k.k ≡ c.args.entries = omega arith in

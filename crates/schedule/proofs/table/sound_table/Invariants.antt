@@ -1,13 +1,9 @@
 -- `schedule::table::sound_table` meets its contract: the bodies passed begin where they have to, and the next is due where the
 -- last one ended.
-use Prim.Native.Nat.{ℕ, ◌+◌, ◌-◌, ◌≤◌, ◌<◌}
-use mathlib.Core.Path.{◌≡◌, sym, ◌∙◌}
-use native.Mathlib.Omega.{arith}
-use borrow.Author.Count.{below_more}
-use borrow.Author.Rules.{rules}
+use Prim.Native.Nat.{ℕ, ◌≤◌, ◌<◌}
+use mathlib.Core.Path.{◌≡◌}
 use Rattle.schedule.specs.Bytes.{offset_of}
 use Rattle.schedule.specs.Sound.{due_at}
-use Rattle.schedule.proofs.Sounds.{not_sound_table, due_first, due_next, ends_answer}
 use Rattle.schedule.proofs.table.sound_table.Given as goal
 
 abbrev pub invariant-loop-k : goal.invariant-loop-k

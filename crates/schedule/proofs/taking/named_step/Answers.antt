@@ -3,7 +3,6 @@ use Prim.Native.Nat.{◌+◌, ◌≤◌, ◌<◌}
 use mathlib.Core.Path.{refl, subst}
 use native.Mathlib.Omega.{arith}
 use lib.ListN.{length, drop, length-drop}
-use borrow.Author.Rules.{rules}
 use Rattle.schedule.specs.Sound.{handlers_in, table_start, script_in}
 use Rattle.schedule.specs.Fronts.{StepInFront, FrontOf}
 use Rattle.schedule.specs.declared.scripts.Front.TheVariants.{Refuses}
@@ -31,7 +30,9 @@ refuses : (c : In-Refuses) → let args = c.args in
 refuses c =
     let args = c.args in
     subst (FrontOf (left_of args.file.now args.cursors.at args.handler))
-    c.in-Refuses.is ((let args = c.args in subst (λ script. FrontOf (drop (cursor_of args.cursors.at args.handler) script) c.in_front.result) c.body-script.ensures c.in_front.ensures))
+    c.in-Refuses.is ((let args =
+    c.args in subst (λ script. FrontOf (drop (cursor_of args.cursors.at args.handler) script) c.in_front.result) c.body-script.ensures
+    c.in_front.ensures))
 
 -- or a step.
 stands : (c : In-Stands) → let args = c.args in
@@ -39,7 +40,9 @@ stands : (c : In-Stands) → let args = c.args in
 stands c =
     let args = c.args in
     subst (FrontOf (left_of args.file.now args.cursors.at args.handler))
-    c.in-Stands.is ((let args = c.args in subst (λ script. FrontOf (drop (cursor_of args.cursors.at args.handler) script) c.in_front.result) c.body-script.ensures c.in_front.ensures))
+    c.in-Stands.is ((let args =
+    c.args in subst (λ script. FrontOf (drop (cursor_of args.cursors.at args.handler) script) c.in_front.result) c.body-script.ensures
+    c.in_front.ensures))
 
 -- The cursor behind the step is a place of the file.
 further : (c : In-Stands) → let args = c.args in

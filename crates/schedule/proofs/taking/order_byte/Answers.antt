@@ -3,8 +3,6 @@ use mathlib.Core.Path.{◌≡◌, sym, ap, ◌∙◌}
 use mathlib.Core.Bool.{true}
 use native.Mathlib.Omega.{arith}
 use lib.ListN.{length}
-use borrow.Author.Rules.{rules}
-use borrow.Author.Tests.{not-true, not-false}
 use Rattle.schedule.specs.Bytes.{byte_at}
 use Rattle.schedule.specs.Sound.{is_sound_file}
 use Rattle.schedule.proofs.Sounds.{file_tested, head_there}

@@ -1,7 +1,6 @@
 -- `steps::single::begin` meets its contract: the handler's block is lent, and comes back as the block of one that has begun.
 use mathlib.Core.Path.{refl}
 use native.Mathlib.Omega.{arith}
-use borrow.Author.Rules.{rules}
 use Rattle.rules.specs.steps.Figure.{begun, step}
 use Rattle.layout.specs.View.{word_setting}
 use Rattle.steps.proofs.Lent.{block_lies, block_words, lent_takes}

@@ -3,7 +3,6 @@ use Prim.Native.Nat.{◌+◌, ◌≤◌}
 use mathlib.Core.Path.{◌≡◌, sym, ap, ◌∙◌}
 use native.Mathlib.Omega.{arith}
 use lib.ListN.{length}
-use borrow.Author.Rules.{rules}
 use Rattle.rules.specs.steps.Figure.{torn_cell}
 use Rattle.layout.specs.Places.{cell_long, handler_long, transaction_from}
 use Rattle.layout.specs.View.{word_setting, view}
@@ -61,7 +60,12 @@ pub bounds-body-start : goal.bounds-body-start
 bounds-body-start c = omega (arith, lies (goal.at.bounds-body-start c).After-block_at-span)
 
 pub torn-requires : goal.torn-requires
-torn-requires c = (read_among c.requires.ready.seated c.block_at-span.ensures.starts, omega (arith, lies (goal.at.torn-requires c).After-block_at-span), omega (arith, lies (goal.at.torn-requires c).After-block_at-span))
+torn-requires c = (
+  read_among c.requires.ready.seated c.block_at-span.ensures.starts,
+  omega (arith, lies (goal.at.torn-requires c).After-block_at-span),
+  omega
+      (arith, lies (goal.at.torn-requires c).After-block_at-span),
+)
 
 pub offset_bounds-body-start-in-Cell : goal.offset_bounds-body-start-in-Cell
 offset_bounds-body-start-in-Cell c = omega (arith, lies (goal.at.offset_bounds-body-start-in-Cell c).After-block_at-span)
@@ -98,7 +102,7 @@ slice_bounds-join-end c = omega (arith, lies (goal.at.slice_bounds-join-end c).A
 
 pub join-requires : goal.join-requires
 join-requires c = let ready = c.requires.ready in (
-      block_open ready.seated c.block_at-span.ensures ready.phase,
-      ready.cell,
-      row_small c.requires c.cell_at-cell.ensures.starts c.block_at-span.ensures c.copy_out-row.ensures,
-    )
+  block_open ready.seated c.block_at-span.ensures ready.phase,
+  ready.cell,
+  row_small c.requires c.cell_at-cell.ensures.starts c.block_at-span.ensures c.copy_out-row.ensures,
+)

@@ -1,7 +1,6 @@
 -- `steps::single::give_up` meets its contract: the handler's block is lent, and comes back as the block of one that rests.
 use mathlib.Core.Path.{refl}
 use native.Mathlib.Omega.{arith}
-use borrow.Author.Rules.{rules}
 use Rattle.rules.specs.steps.Figure.{step}
 use Rattle.steps.proofs.Lent.{block_lies, block_words, rest_takes}
 use Rattle.steps.proofs.single.give_up.Goals as goal

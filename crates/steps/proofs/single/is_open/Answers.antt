@@ -1,6 +1,5 @@
 -- `steps::single::is_open` meets its contract: the first word of the handler's block is its phase.
 use native.Mathlib.Omega.{arith}
-use borrow.Author.Rules.{rules}
 use Rattle.steps.proofs.Lent.{block_lies}
 use Rattle.steps.proofs.Said.{phase_said}
 use Rattle.steps.proofs.single.is_open.Goals as goal

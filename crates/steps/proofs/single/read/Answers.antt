@@ -3,7 +3,6 @@ use Prim.Native.Nat.{◌+◌, ◌≤◌}
 use mathlib.Core.Path.{◌≡◌, sym, ◌∙◌}
 use native.Mathlib.Omega.{arith}
 use lib.ListN.{length}
-use borrow.Author.Rules.{rules}
 use Rattle.layout.specs.Places.{handler_long}
 use Rattle.layout.specs.View.{view}
 use Rattle.steps.proofs.Lent.{block_lies}
@@ -43,7 +42,8 @@ returns-then-has-2 c =
     let ready = c.requires in
     let starts = c.block_at-span.ensures.starts in
     held_takes ready.seated.formed.good
-    (sym (read_told (goal.at.returns-then-has-2 c).After-has-2) ∙ c.if-has-2.true) (sym (written_told (goal.at.returns-then-has-2 c).After-has) ∙ c.if-has.false)
+    (sym (read_told (goal.at.returns-then-has-2 c).After-has-2) ∙ c.if-has-2.true)
+    (sym (written_told (goal.at.returns-then-has-2 c).After-has) ∙ c.if-has.false)
     c.version_shows.ensures.replied
     (transaction_said ready.seated starts _ ready.cell c.transaction_numbers.ensures)
     (copy_said ready.seated starts _ ready.cell c.copies.ensures)
@@ -95,10 +95,10 @@ bounds-body-copies-then-has-2 c = omega (arith, lies (goal.at.bounds-body-copies
 
 pub first_read-requires : goal.first_read-requires
 first_read-requires c = record {
-      ready = c.requires;
-      unread = sym (read_told (goal.at.first_read-requires c).After-has-2) ∙ c.if-has-2.false;
-      unwritten = sym (written_told (goal.at.first_read-requires c).After-has) ∙ c.if-has.false;
-    }
+  ready = c.requires;
+  unread = sym (read_told (goal.at.first_read-requires c).After-has-2) ∙ c.if-has-2.false;
+  unwritten = sym (written_told (goal.at.first_read-requires c).After-has) ∙ c.if-has.false;
+}
 
 pub returns : goal.returns
 returns c = c.first_read.ensures

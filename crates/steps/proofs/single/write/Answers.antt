@@ -1,7 +1,6 @@
 -- `steps::single::write` meets its contract: the handler's block is lent, and comes back as the block of one that has written.
 use mathlib.Core.Path.{refl}
 use native.Mathlib.Omega.{arith}
-use borrow.Author.Rules.{rules}
 use Rattle.rules.specs.steps.Figure.{wrote, step}
 use Rattle.steps.proofs.Lent.{block_lies, block_open, lent_takes}
 use Rattle.steps.proofs.single.write.Goals as goal

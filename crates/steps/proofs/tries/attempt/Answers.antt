@@ -5,7 +5,6 @@ use mathlib.Core.List.{List}
 use mathlib.Core.Option.{Option, none}
 use native.Mathlib.Omega.{arith}
 use lib.ListN.{length, take, drop}
-use borrow.Author.Rules.{rules}
 use Rattle.rules.specs.steps.Register.{Setting, Handler, Register}
 use Rattle.rules.specs.steps.Figure.{overtaken_cell, spent_cell}
 use Rattle.layout.specs.Places.{handler_long}
@@ -41,7 +40,9 @@ write_answer c =
 
 -- The reads stand, where the writes are looked at.
 current : (c : After-spent) → ruled overtaken_cell c.args.m c.args.n c.args.body.now c.args.i ≡ none
-current c = sym (c.overtaken.ensures ∙ overtaken_told c.requires.seated c.block_at-span.ensures.starts c.transaction_numbers.ensures) ∙ ap found_is c.in_default.is
+current c =
+    sym (c.overtaken.ensures ∙ overtaken_told c.requires.seated c.block_at-span.ensures.starts c.transaction_numbers.ensures) ∙ ap found_is
+    c.in_default.is
 
 -- What is lent is the words of a block.
 block : (c : After-block_at-span) → let args = c.args in
@@ -58,7 +59,8 @@ returns-in-Cell c =
 pub returns-in-Cell-spent : goal.returns-in-Cell-spent
 returns-in-Cell-spent c =
     rest_takes c.requires.seated c.block_at-span.ensures
-    (try_spent _ _ _ _ (current (goal.at.returns-in-Cell-spent c).After-spent) (sym (write_answer (goal.at.returns-in-Cell-spent c).After-spent) ∙ ap found_is c.in-Cell-spent.is)) c.rest-in-Cell-spent.ensures
+    (try_spent _ _ _ _ (current (goal.at.returns-in-Cell-spent c).After-spent)
+    (sym (write_answer (goal.at.returns-in-Cell-spent c).After-spent) ∙ ap found_is c.in-Cell-spent.is)) c.rest-in-Cell-spent.ensures
 
 pub offset_bounds-body-start : goal.offset_bounds-body-start
 offset_bounds-body-start c = omega (arith, lies (goal.at.offset_bounds-body-start c).After-block_at-span)
@@ -73,7 +75,8 @@ pub bounds-body-start-2 : goal.bounds-body-start-2
 bounds-body-start-2 c = omega (arith, lies (goal.at.bounds-body-start-2 c).After-block_at-span)
 
 pub overtaken-requires : goal.overtaken-requires
-overtaken-requires c = (read_among c.requires.seated c.block_at-span.ensures.starts, omega (arith, lies (goal.at.overtaken-requires c).After-block_at-span))
+overtaken-requires c =
+    (read_among c.requires.seated c.block_at-span.ensures.starts, omega (arith, lies (goal.at.overtaken-requires c).After-block_at-span))
 
 pub offset_bounds-body-start-in-Cell : goal.offset_bounds-body-start-in-Cell
 offset_bounds-body-start-in-Cell c = omega (arith, lies (goal.at.offset_bounds-body-start-in-Cell c).After-block_at-span)
@@ -97,4 +100,6 @@ pub rest-requires-in-Cell-spent : goal.rest-requires-in-Cell-spent
 rest-requires-in-Cell-spent c = block (goal.at.rest-requires-in-Cell-spent c).After-block_at-span
 
 pub returns : goal.returns
-returns c = commit_takes (current (goal.at.returns c).After-spent) (sym (write_answer (goal.at.returns c).After-spent) ∙ ap found_is c.in_default-spent.is) c.commit.ensures
+returns c =
+    commit_takes (current (goal.at.returns c).After-spent) (sym (write_answer (goal.at.returns c).After-spent) ∙ ap found_is c.in_default-spent.is)
+    c.commit.ensures

@@ -3,7 +3,6 @@ use Prim.Native.Nat.{◌+◌, ◌≤◌}
 use mathlib.Core.Path.{◌≡◌, refl, ◌∙◌}
 use native.Mathlib.Omega.{arith}
 use lib.ListN.{length}
-use borrow.Author.Rules.{rules}
 use Rattle.layout.specs.Places.{handler_long}
 use Rattle.steps.proofs.Lent.{block_lies, block_of}
 use Rattle.steps.proofs.Committing.{raisable, row_behind, commits}
@@ -44,7 +43,8 @@ store-requires c = let seated = c.requires.seated in
     )
 
 pub slice_bounds-settle-end : goal.slice_bounds-settle-end
-slice_bounds-settle-end c = omega (arith, lies (goal.at.slice_bounds-settle-end c).After-block_at-span, stored_long (goal.at.slice_bounds-settle-end c).After-store)
+slice_bounds-settle-end c =
+    omega (arith, lies (goal.at.slice_bounds-settle-end c).After-block_at-span, stored_long (goal.at.slice_bounds-settle-end c).After-store)
 
 pub settle-requires : goal.settle-requires
 settle-requires c = block_of c.requires.seated c.block_at-span.ensures _ (stored_long (goal.at.settle-requires c).After-store)

@@ -4,7 +4,6 @@ use Prim.Native.Nat.{ℕ, ◌-◌}
 use mathlib.Core.Path.{◌≡◌, sym, ◌∙◌, subst}
 use native.Mathlib.Omega.{arith}
 use lib.ListN.{length}
-use borrow.Author.Rules.{rules}
 use borrow.Rule.Slice.PartMut.{put_mid}
 use Rattle.rules.specs.steps.Codes.{plain_sheet}
 use Rattle.layout.specs.Places.{cells_of, handlers_of}
@@ -55,4 +54,5 @@ pub turn-requires : goal.turn-requires
 turn-requires c = rw (behind_is 2 c.args.words.now) (stands c.requires)
 
 pub returns : goal.returns
-returns c code is = (promised (goal.at.returns c).After-turn code is, (step_keeps (promised (goal.at.returns c).After-turn code is) c.requires).well_formed)
+returns c code is =
+    (promised (goal.at.returns c).After-turn code is, (step_keeps (promised (goal.at.returns c).After-turn code is) c.requires).well_formed)

@@ -1,6 +1,5 @@
 -- `turns::take::take` meets its contract: each kind of code takes its step.
 use mathlib.Core.Path.{ap}
-use borrow.Author.Rules.{rules}
 use Rattle.rules.specs.steps.Codes.{begin, try, give_up, read, write}
 use Rattle.checks.specs.Meaning.{kind_is}
 use Rattle.checks.proofs.OneStep.{no_step_lem}

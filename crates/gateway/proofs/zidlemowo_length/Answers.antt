@@ -3,7 +3,6 @@ use Prim.Native.Nat.{ℕ, ◌≤◌}
 use mathlib.Core.Path.{◌≡◌, refl, sym, ap, ◌∙◌}
 use mathlib.Core.Option.{some, some-injective, some-ne-none}
 use native.Mathlib.Omega.{arith}
-use borrow.Author.Rules.{rules}
 use Rattle.rules.specs.steps.Checks.{in_range}
 use Rattle.rules.proofs.steps.Given.{range_tested}
 use Rattle.rules.proofs.steps.Tables.{by}
@@ -11,8 +10,8 @@ use Rattle.layout.proofs.Places.{body_small}
 use Rattle.promises.specs.Lengths.{length_for}
 use Rattle.register.specs.Meaning.{needed_is}
 use Rattle.gateway.specs.Packed.{length_number}
-use Rattle.gateway.proofs.zidlemowo_length.Statement.{statement}
-use Rattle.gateway.proofs.zidlemowo_length.Tie as tie
+use Rattle.gateway.proofs.zidlemowo_length.Goals as goal
+use Rattle.gateway.proofs.zidlemowo_length.Goals.{In-Words}
 
 -- No register has more than 2,642 words.
 at_most : (m n k : ℕ) → some k ≡ length_for m n → k ≤ 2642
@@ -23,20 +22,18 @@ at_most m n k e = by (in_range m n)
     (λ out. absurd (some-ne-none k (rw out at e)))
 
 -- The length that the register answered.
-answered : (c : tie.After-count) → let args = c.before.before.before.args in some c.count.given.0.0 ≡ length_for args.m args.n
-answered c = ap needed_is (sym c.count.given.1) ∙ c.before.before.words-needed.ensures.replied
+answered : (c : In-Words) → let args = c.args in some c.in-Words.count ≡ length_for args.m args.n
+answered c = ap needed_is (sym c.in-Words.is) ∙ c.words_needed.ensures.replied
 
-pub zidlemowo_length_spec : {M : Type 1} → statement M
-zidlemowo_length_spec =
-    tie.close
-    (tie.spec
-    (λ c κs. search rules)
-    (λ c. search rules)
-    (λ c. omega (arith, at_most _ _ _ (answered c.before)))
-    (λ c. search rules)
-    (λ c. record { replied = ap length_number (answered c.before); left = refl })
-    (λ c. let needed = c.before.before.words-needed in
+pub overflow_cast-result : goal.overflow_cast-result
+overflow_cast-result c = omega (arith, at_most _ _ _ (answered (goal.at.overflow_cast-result c).In-Words))
+
+pub returns-in-Words : goal.returns-in-Words
+returns-in-Words c = record { replied = ap length_number (answered (goal.at.returns-in-Words c).In-Words); left = refl }
+
+pub returns-in-Nothing : goal.returns-in-Nothing
+returns-in-Nothing c = let needed = c.words_needed in
     record {
-      replied = ap (λ answer. length_number (needed_is answer)) (sym c.enum_told.given.1) ∙ ap length_number needed.ensures.replied;
+      replied = ap (λ answer. length_number (needed_is answer)) (sym c.in-Nothing.is) ∙ ap length_number needed.ensures.replied;
       left = refl;
-    }))
+    }
