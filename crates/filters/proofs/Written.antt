@@ -1,5 +1,6 @@
 -- What is written of a file is the text of the bytes that there were: a text that was put into a buffer with room for it stands in front.
-use Rattle.std.proofs.Common.{◌≡◌, ℕ, ◌≤◌, List, [], ◌∷◌, length, take, refl, ap, ◌∙◌, subst, arith, Option, None, Some, IfSome}
+use Rattle.std.proofs.Common.{◌≡◌, ℕ, ◌≤◌, List, [], ◌∷◌, length, take}
+use Rattle.std.proofs.Common.{refl, ap, ◌∙◌, subst, arith, Option, None, Some, IfSome}
 use Rattle.std.specs.Io.KnownBytes.{Appends}
 use Rattle.text.specs.Lies.{over}
 
@@ -11,8 +12,8 @@ front_of_over (byte ∷ text) [] room = absurd (omega (arith, room))
 front_of_over (byte ∷ text) (was ∷ space) room = ap (byte ∷◌) (front_of_over text space (omega (arith, room)))
 
 -- So it is with a text that was put into a buffer.
-pub text_in_front : (text space buffer : List ℕ) (long most : ℕ) → long ≡ length text → buffer ≡ over text space → long ≤ most
-    → most ≡ length space → take long buffer ≡ text
+pub text_in_front : (text space buffer : List ℕ) (long most : ℕ) → long ≡ length text → buffer ≡ over text space
+    → long ≤ most → most ≡ length space → take long buffer ≡ text
 text_in_front text space buffer long most is lies fits room =
     ap (λ n. take n buffer) is ∙ ap (take (length text)) lies ∙ front_of_over text space (omega (arith, is, fits, room))
 

@@ -1,7 +1,6 @@
-// What every program here does at its two ends: a file is read to its end, and a text is written to standard output. A read or a write
-// that fails is said on standard error, and never taken for an answer.
-// Internal: called by our programs alone. What is read and written is said of a reader and a writer whose bytes are known; of those of
-// the system no contract knows them.
+// What every program here does at its two ends: a file is read to its end, and a text is written. A read or a write that fails is said on
+// standard error, and never taken for an answer. Of the system's bytes no contract knows; of a reader and a writer whose bytes are known,
+// these say which were read and written. Internal: called by our programs alone.
 #![tactic(auto)]
 
 ghost use Rattle.std.specs.Prelude.{◌≡◌, ◌<◌, ◌≤◌, length, take, IsTrue, IfSome};
@@ -103,4 +102,86 @@ pub fn room() -> [u8; limits::MOST_PRINTED]
     ensures { most_printed ≡ length result }
 {
     [0; limits::MOST_PRINTED]
+}
+
+#[cfg(test)]
+mod tests {
+    use super::*;
+    use std::io;
+    use std::io::ErrorKind;
+
+    // A reader that brings three bytes a read for some reads, and then fails or is at its end.
+    #[derive(Drop)]
+    struct Pieces {
+        reads: usize,
+        fails: bool,
+    }
+
+    impl Read for Pieces {
+        fn read(&mut self, part: &mut [u8]) -> io::Result<usize> {
+            if self.reads == 0 {
+                return if self.fails {
+                    Err(io::Error::from(ErrorKind::Other))
+                } else {
+                    Ok(0)
+                };
+            }
+            self.reads -= 1;
+            let count = part.len().min(3);
+            part[..count].fill(7);
+            Ok(count)
+        }
+    }
+
+    // A writer that takes two bytes a write for some writes, and then fails.
+    #[derive(Drop)]
+    struct Narrow {
+        writes: usize,
+    }
+
+    impl Write for Narrow {
+        fn write(&mut self, bytes: &[u8]) -> io::Result<usize> {
+            if self.writes == 0 {
+                return Err(io::Error::from(ErrorKind::StorageFull));
+            }
+            self.writes -= 1;
+            Ok(bytes.len().min(2))
+        }
+
+        fn flush(&mut self) -> io::Result<()> {
+            Ok(())
+        }
+    }
+
+    // Reads to the end, until the buffer is full, or until a read fails; what came before that stands in the buffer.
+    #[test]
+    fn reads_to_the_end_the_buffers_or_a_failure(rt: HostRuntime) {
+        for (reads, fails, count, whole) in [
+            (0, false, 0, true),
+            (0, true, 0, false),
+            (2, false, 6, true),
+            (2, true, 6, false),
+            (3, true, 8, true),
+            (9, false, 8, true),
+        ] {
+            let mut file = [0u8; 8];
+            let mut pieces = Pieces { reads, fails };
+            let reading = read_from(&rt, &mut pieces, b"pieces", &mut file);
+            assert_eq!(rt; reading.count, count, "after {reads} reads");
+            assert_eq!(rt; reading.whole, whole, "after {reads} reads");
+        }
+    }
+
+    // Writes all, by as many writes as it takes, or says that it did not.
+    #[test]
+    fn writes_all_or_fails(rt: HostRuntime) {
+        for (writes, written) in [(0, false), (2, false), (3, true)] {
+            let mut narrow = Narrow { writes };
+            assert_eq!(rt;
+                write_front(&rt, &mut narrow, b"123456", 5),
+                written,
+                "after {writes} writes"
+            );
+        }
+    }
 }

@@ -9,5 +9,6 @@ pub returns : goal.returns
 returns g c =
     let promise = c.put_codes-long.ensures.codes_promise in
     let room : page_bytes ≡ length c.put_codes-long.new.buffer = search rules in
-    let stands = text_in_front _ _ _ _ _ promise.replied promise.left c.put_codes-long.ensures.upper_bound (room ∙ c.put_codes-long.auto.buffer) in
+    let fits = c.put_codes-long.ensures.upper_bound in
+    let stands = text_in_front _ _ _ _ _ promise.replied promise.left fits (room ∙ c.put_codes-long.auto.buffer) in
     subst (Appends _ _) stands (c.if-not-write_front.ensures (search rules))

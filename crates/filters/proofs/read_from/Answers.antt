@@ -1,5 +1,6 @@
 -- What a read brought stands behind what was read before, and both together are what the reader gave.
-use Rattle.std.proofs.Common.{rules, ◌≡◌, ℕ, ◌+◌, ◌-◌, ◌≤◌, List, ◌++◌, arith, length, take, slice_range, sym, ap, ◌∙◌, subst, le_refl, drop_at, length-take-le}
+use Rattle.std.proofs.Common.{rules, ◌≡◌, ℕ, ◌+◌, ◌-◌, ◌≤◌, List, ◌++◌, arith}
+use Rattle.std.proofs.Common.{length, take, slice_range, sym, ap, ◌∙◌, subst, le_refl, drop_at, length-take-le}
 use Rattle.std.proofs.lemmas.Slice.{take-put_mid_below}
 use Rattle.std.specs.Io.KnownBytes.{Consumes}
 use Rattle.std.proofs.KnownBytes.{Consumes-trans}
@@ -8,7 +9,8 @@ use lib.Seq.{take-add, take-append-le}
 use Rattle.filters.proofs.read_from.Goals as goal
 
 -- The front up to a place, and what stands from there to a later one, are the front up to that.
-take_split : (from end : ℕ) (old new : List ℕ) → from ≤ end → take from new ≡ take from old → take from old ++ slice_range new from end ≡ take end new
+take_split : (from end : ℕ) (old new : List ℕ) → from ≤ end → take from new ≡ take from old
+    → take from old ++ slice_range new from end ≡ take end new
 take_split from end old new later front =
     let same : from + (end - from) ≡ end = omega arith in
     ap (λ bytes. bytes ++ slice_range new from end) (sym front) ∙ sym (take-add from (end - from) new) ∙ ap (λ n. take n new) same
@@ -31,7 +33,8 @@ loop-count-preserved g c =
     let part = c.read_some-reading.new.part in
     let inside = c.loop-count.invariant.inside in
     let brought = stands_there from room more file part inside c.read_some-reading.ensures.count.0 in
-    let joined = take_split from (from + more) file (put_mid from room file part) (omega arith) (take-put_mid_below _ _ _ _ _ (le_refl _) inside) in
+    let kept = take-put_mid_below _ _ _ _ _ (le_refl _) inside in
+    let joined = take_split from (from + more) file (put_mid from room file part) (omega arith) kept in
     let together = ap (λ bytes. take from file ++ bytes) (sym brought) ∙ joined in
     record {
       inside = search rules;
