@@ -10,7 +10,8 @@ ghost use Rattle.replies.specs.Meaning.{reason_is, content_is, outcome_is, refus
 ghost use Rattle.replies.specs.Ends.{end_is};
 ghost use Rattle.text.specs.Lies.{Puts, farthest};
 ghost use Rattle.lines.specs.Lines.{line_is};
-ghost use Rattle.lines.specs.Texts.{front_text, content_text, named_text, abort_text, outcome_text, refusal_text, reply_text, place_text, header_text, end_text, refused_text};
+ghost use Rattle.lines.specs.Texts.{front_text, content_text, named_text, abort_text, outcome_text};
+ghost use Rattle.lines.specs.Texts.{refusal_text, reply_text, place_text, header_text, end_text, refused_text};
 
 use replies::{Answer, Content, End, Outcome, Reason, Refusal};
 use text::{put_number, put_text};
