@@ -14,8 +14,7 @@ fn rows(heading: &str) -> Vec<(u32, Vec<String>)> {
 
 /// A row's name, as the enums write it.
 fn capital(name: &str) -> String {
-    let name = name.trim_matches('`');
-    name[..1].to_uppercase() + &name[1..]
+    name.trim_matches('`').split('_').map(|word| word[..1].to_uppercase() + &word[1..]).collect()
 }
 
 #[test]
