@@ -53,6 +53,7 @@ fn source_noted(words: &[u32], row: usize, c: usize) -> usize
 }
 
 // Whether a row's transaction has read or written the cell x.
+#[tactic(auto, using(ledger::proofs::Deeds::copy_none, ledger::proofs::Deeds::copy_noted))]
 pub fn has_copy(words: &[u32], row: usize, x: usize) -> bool
     requires { (ledger_long ≤ length words.now) × (row < ledger_rows) × (x < most_cells) }
     ensures { (m : ℕ) → x < m
@@ -108,6 +109,7 @@ pub fn present_content(words: &[u32], x: usize, count: usize) -> Content
 }
 
 // What the copy shows that a row's transaction has of the cell x: what it wrote, or else the version that it read, if any.
+#[tactic(auto, using(ledger::proofs::Deeds::shown_opening))]
 pub fn copy_content(words: &[u32], row: usize, x: usize) -> Content
     requires { (ledger_long ≤ length words.now) × (row < ledger_rows) × (x < most_cells) }
     ensures { (m : ℕ) → x < m → content_is result ≡ copied (deeds_of (entry_in words.now row) m) x }

@@ -1,17 +1,18 @@
 -- An opening of the judge by its ways: refused with 20 or 21 and nothing changed, or ready with a fresh ledger in front of the words.
-use Prim.Native.Nat.{ℕ, ◌+◌, ◌-◌, ◌≤◌}
+use Prim.Native.Nat.{ℕ, ◌+◌, ◌-◌, ◌<◌, ◌≤◌}
 use native.Mathlib.Omega.{arith}
 use mathlib.Core.Path.{◌≡◌, sym, ap, ap₂, ◌∙◌}
 use mathlib.Core.Bool.{true}
+use mathlib.Core.Option.{some}
 use mathlib.Core.List.{List, ◌∷◌, ◌++◌}
 use lib.ListN.{length, get_or, set, drop, length-set, length-drop}
 use lib.Seq.{ext_get_or, get_or-drop, drop-cons, get_or-set_same, get_or-set_other}
 use borrow.Author.Tests.{le-ltb}
-use Rattle.rules.specs.steps.Replies.{Refusal, Opening, ready}
+use Rattle.rules.specs.steps.Replies.{Refusal, too_short, Opening, ready}
 use Rattle.rules.specs.steps.Register.{zeros}
 use Rattle.rules.specs.steps.Checks.{first_hit, in_range, opening_checks}
-use Rattle.rules.specs.steps.Given.{OpeningGiven}
-use Rattle.rules.proofs.steps.Given.{opening_exactly}
+use Rattle.rules.specs.steps.Given.{OpeningGiven, wrong_length}
+use Rattle.rules.proofs.steps.Given.{range_tested, opening_exactly}
 use Rattle.layout.specs.Rows.{row}
 use Rattle.layout.proofs.Rows.{row_cut}
 use Rattle.words.specs.Rows.{Changed}
@@ -27,6 +28,22 @@ module _ (words : List ℕ) (m n : ℕ) where
   ledger_stops refusal given =
       let said = (opening_exactly m n (length words) ledger_long refusal).1 given in
       record { replied = rw said; left = rw said }
+
+  -- With m and n in range, words that are too few are refused with 21,
+  pub ledger_short : in_range m n ≡ true → length words < ledger_long → ledger_refusal words m n ≡ some too_short
+  unfolding ledger_refusal
+  ledger_short ranged few =
+      (opening_exactly m n (length words) ledger_long too_short).1 (wrong_length ((range_tested m n).0 ranged) few)
+
+  -- and left as they are.
+  pub short_left : ledger_refusal words m n ≡ some too_short → ledger_words words m n (ledger_refusal words m n) ≡ words
+  unfolding ledger_words
+  short_left e = rw e
+
+  -- That is the reply.
+  pub short_said : ledger_refusal words m n ≡ some too_short → opening_reply (ledger_refusal words m n) ≡ Opening.refused too_short
+  unfolding opening_reply
+  short_said e = rw e
 
   module _ (cleared : List ℕ) (long : ledger_long ≤ length words) (changed : Changed 2 5344 zeros words cleared) where
     -- The cleared words with m and n in front.

@@ -24,6 +24,7 @@ pub fn words_needed() -> usize
 }
 
 // Opens a ledger for m cells and n handlers in front of the words.
+#[tactic(auto, using(crate::proofs::Opening::ledger_short, crate::proofs::Opening::short_left, crate::proofs::Opening::short_said))]
 pub fn open(words: &mut [u32], m: u32, n: u32) -> Opened
     ensures { LedgerPromise words.old m n (opening_is result) words.new }
 {

@@ -49,6 +49,7 @@ fn is_nothing(found: Found) -> bool
 }
 
 // Whether a step that no check refuses would be one commit more than are noted.
+#[tactic(auto, using(crate::proofs::Tests::room_left))]
 pub fn is_too_many(words: &[u32], m: usize, i: usize, kind: Kind) -> bool
     requires { (s : Step) × (kind_is kind ≡ known s) × JudgeReady words.now m i s }
     ensures { (s : Step) → kind_is kind ≡ known s

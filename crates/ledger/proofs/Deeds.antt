@@ -1,6 +1,6 @@
 -- What an entry's deeds are, cell by cell: which cells are read, which reads pass a test, what was written, what the copies show, and what is left on a table.
 use Rattle.std.specs.Prelude.{if◌then◌else◌}
-use Prim.Native.Nat.{ℕ, zero, suc, ◌-◌, ◌<◌}
+use Prim.Native.Nat.{ℕ, zero, suc, ◌-◌, ◌<◌, ◌≤◌}
 use native.Mathlib.Omega.{arith}
 use native.Mathlib.Numerals.{sub-one}
 use mathlib.Core.Path.{◌≡◌, refl, sym, ap, ◌∙◌, fun_ext}
@@ -14,6 +14,7 @@ use Rattle.rules.specs.steps.Figure.{version_shows}
 use Rattle.rules.specs.history.History.{Deed, some_look, has_read, has_written}
 use Rattle.rules.specs.history.Replay.{after}
 use Rattle.rules.specs.demand.Judge.{copied}
+use Rattle.rules.proofs.steps.Steps.{shows_nothing}
 use Rattle.rules.proofs.steps.Tables.{by, same_test}
 use Rattle.rules.proofs.steps.Searches.{some_only, some_next}
 use Rattle.rules.proofs.history.Deeds.{EachRead, each_none, each_look, each_set}
@@ -232,3 +233,7 @@ module _ (e : Entry) where
   unfolding copy_shows
   shown_read m x inside unwritten told =
       copies_at m x ∙ rw (lt-ltb x m inside, unwritten, told) (source_shows (e.sources x) (e.copies x))
+
+  -- that of the opening nothing.
+  pub shown_opening : (m x : ℕ) → x < m → e.written x ≡ false → e.sources x ≤ 1 → unset ≡ copied (deeds_of e m) x
+  shown_opening m x inside unwritten first = sym (shown_read m x inside unwritten refl ∙ shows_nothing _ _ (omega arith))

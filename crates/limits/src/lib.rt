@@ -71,6 +71,7 @@ pub const STEP_WIDTH: usize = 3;
 pub const REPORT_WIDTH: usize = 5;
 
 // Whether m is 1 to 32 and n is 1 to 16.
+#[tactic(auto, using(crate::proofs::Ranges::out_of_range))]
 pub fn in_range(m: u32, n: u32) -> bool
     ensures { RangePromise m n result }
 {

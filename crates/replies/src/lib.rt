@@ -91,6 +91,7 @@ pub enum End {
 }
 
 // What a version of a number shows: the opening's, which has number 0, nothing.
+#[tactic(auto, using(rules::proofs::steps::Steps::shows_nothing, rules::proofs::steps::Steps::shows_value))]
 pub fn version_shows(number: u32, value: u32) -> Content
     ensures { VersionPromise number value (content_is result) }
 {

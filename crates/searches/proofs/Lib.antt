@@ -1,2 +1,3 @@
 -- Laws of a search among the cells of a set.
 pub mod Cells
+pub mod Finds

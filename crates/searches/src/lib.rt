@@ -11,6 +11,7 @@ ghost use Rattle.searches.specs.Searches.{Among, lower, differs, filled};
 use words::Found;
 
 // The lowest cell of the set with a number in the row held that is below the one in the row of numbers.
+#[tactic(auto, using(crate::proofs::Finds::torn_finds))]
 pub fn torn(body: &[u32], m: usize, set: u32, held: usize, numbers: usize) -> Found
     requires { Among m set body.now × (held + m ≤ length body.now) × (numbers + m ≤ length body.now) }
     ensures { found_is result ≡ lowest m (lower set body.now held numbers) }
@@ -44,6 +45,7 @@ pub fn overtaken(body: &[u32], m: usize, set: u32, held: usize) -> Found
 }
 
 // The lowest cell of the set with 65,535 as its own number.
+#[tactic(auto, using(crate::proofs::Finds::spent_finds))]
 pub fn spent(body: &[u32], m: usize, set: u32) -> Found
     requires { Among m set body.now }
     ensures { found_is result ≡ lowest m (filled m set body.now) }

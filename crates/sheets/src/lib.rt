@@ -31,6 +31,7 @@ pub enum Added {
 }
 
 // Whether some count of the sheet is above the one up to which it takes a file.
+#[tactic(auto, using(crate::proofs::Full::full_at_lem))]
 fn is_full(sheet: &[u32]) -> bool
     requires { sheet_long ≤ length sheet.now }
     ensures { result ≡ is_full sheet.now }
@@ -143,6 +144,7 @@ fn add_admitted(sheet: &mut [u32], file: &[u8], handlers: u32, cells: u32) -> Ad
 }
 
 // Adds a file to a sheet: each reply of its run is counted in its handler's row, or the file is refused and every word is as it was.
+#[tactic(auto, using(crate::proofs::Adds::add_short))]
 pub fn add_file(sheet: &mut [u32], file: &[u8]) -> Added
     ensures { AddPromise sheet.old file.now (added_is result) sheet.new }
 {

@@ -47,6 +47,11 @@ pub puts_beyond : {at end byte : ℕ} {buffer : List ℕ} → length buffer ≤ 
 puts_beyond {at} {end} {byte} {buffer} outside ends =
     subst (Puts (byte ∷ []) at end buffer) (set_out buffer at byte outside) (puts_byte ends)
 
+-- so that what lies over the buffer is as it was,
+pub beyond_lies : {at : ℕ} (byte : ℕ) {buffer : List ℕ} (text space : List ℕ) → length buffer ≤ at → length text ≡ at
+    → buffer ≡ over text space → buffer ≡ over (text ++ byte ∷ []) space
+beyond_lies byte text space outside long is = (puts_beyond {byte = byte} outside refl).lies text space long is
+
 -- and bytes are put behind bytes.
 pub puts_both : {first second : List ℕ} {at mid end : ℕ} {x y z : List ℕ}
     → Puts first at mid x y → Puts second mid end y z → Puts (first ++ second) at end x z

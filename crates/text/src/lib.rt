@@ -7,6 +7,7 @@ ghost use Rattle.text.specs.Bytes.{decimal};
 ghost use Rattle.text.specs.Lies.{Puts, farthest};
 
 // Puts a byte at a place; the place behind it.
+#[tactic(auto, using(crate::proofs::Puts::beyond_lies))]
 pub fn put_byte(buffer: &mut [u8], at: usize, byte: u8) -> usize
     requires { at ≤ farthest + 512 }
     ensures { Puts (byte ∷ []) at result buffer.old buffer.new }

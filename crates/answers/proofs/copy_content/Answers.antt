@@ -5,7 +5,7 @@ use native.Mathlib.Omega.{arith}
 use mathlib.Core.Path.{◌≡◌, sym, ap, ◌∙◌}
 use lib.ListN.{get_or}
 use Rattle.rules.specs.steps.Replies.{value}
-use Rattle.rules.proofs.steps.Steps.{shows_nothing, shows_value}
+use Rattle.rules.proofs.steps.Steps.{shows_value}
 use Rattle.ledger.specs.Entries.{entry_in}
 use Rattle.ledger.proofs.Deeds.{shown_written, shown_read}
 use Rattle.answers.proofs.copy_content.Goals as goal
@@ -20,10 +20,6 @@ found c = ap (λ (at : ℕ). value (get_or c.args.words.now at 0)) c.copy_at-at.
 pub returns-then-wrote : goal.returns-then-wrote
 returns-then-wrote c m inside =
     found (goal.at.returns-then-wrote c).After-copy_at-at ∙ sym (shown_written _ m _ inside (sym c.wrote.ensures ∙ c.if-wrote.true))
-
-pub returns-then-source_noted-le1 : goal.returns-then-source_noted-le1
-returns-then-source_noted-le1 c m inside = let unwritten = sym c.wrote.ensures ∙ c.if-wrote.false in
-    sym (shown_read _ m _ inside unwritten c.source_noted.ensures ∙ shows_nothing _ _ (omega arith))
 
 pub returns : goal.returns
 returns c m inside = let unwritten = sym c.wrote.ensures ∙ c.if-wrote.false in

@@ -3,8 +3,8 @@ use mathlib.Core.Path.{◌≡◌, sym, ◌∙◌}
 use mathlib.Core.Bool.{true}
 use native.Mathlib.Omega.{arith}
 use lib.ListN.{length-set}
-use Rattle.rules.specs.steps.Given.{wrong_counts, wrong_length}
-use Rattle.rules.specs.steps.Replies.{out_of_range, too_short}
+use Rattle.rules.specs.steps.Given.{wrong_counts}
+use Rattle.rules.specs.steps.Replies.{out_of_range}
 use Rattle.rules.specs.steps.Checks.{in_range}
 use Rattle.rules.proofs.steps.Tables.{both_ways}
 use Rattle.rules.proofs.steps.Given.{range_tested}
@@ -20,13 +20,8 @@ pub returns-then-not-in_range : goal.returns-then-not-in_range
 returns-then-not-in_range c = let out = sym c.in_range.ensures.replied ∙ c.if-not-in_range.true in
     ledger_stops _ _ _ out_of_range (wrong_counts (λ inside. both_ways ((range_tested _ _).1 inside) out))
 
-pub returns-then-words-lt-LEDGER_WORDS : goal.returns-then-words-lt-LEDGER_WORDS
-returns-then-words-lt-LEDGER_WORDS c =
-    ledger_stops _ _ _ too_short
-    (wrong_length ((range_tested _ _).0 (ranged (goal.at.returns-then-words-lt-LEDGER_WORDS c).Else-not-in_range)) (omega arith))
-
 pub bounds-words-1 : goal.bounds-words-1
 bounds-words-1 c = simp length-set (omega (arith, c.clear.ensures.untouched.size))
 
 pub returns : goal.returns
-returns c = ledger_opens _ _ _ _ (omega (arith, c.if-words-lt-LEDGER_WORDS.false)) c.clear.ensures (ranged (goal.at.returns c).Else-not-in_range)
+returns c = ledger_opens _ _ _ _ (omega arith) c.clear.ensures (ranged (goal.at.returns c).Else-not-in_range)

@@ -3,18 +3,7 @@ use Rattle.std.proofs.Common.{refl, arith}
 use borrow.Author.Tests.{leb-true, le-leb}
 use Rattle.rules.proofs.steps.Given.{range_tested}
 use Rattle.rules.proofs.steps.Tables.{same_test}
-use Rattle.limits.proofs.Ranges.{out_of_range}
 use Rattle.limits.proofs.in_range.Goals as goal
-
--- Too few cells, too many cells, too few handlers.
-pub returns-then-m-lt1 : goal.returns-then-m-lt1
-returns-then-m-lt1 c = out_of_range _ _ (λ range. omega arith)
-
-pub returns-then-m-gt-MOST_CELLS : goal.returns-then-m-gt-MOST_CELLS
-returns-then-m-gt-MOST_CELLS c = out_of_range _ _ (λ range. omega arith)
-
-pub returns-then-n-lt1 : goal.returns-then-n-lt1
-returns-then-n-lt1 c = out_of_range _ _ (λ range. omega arith)
 
 -- What is left to test.
 pub returns : goal.returns

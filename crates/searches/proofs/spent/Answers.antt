@@ -1,14 +1,14 @@
 -- `searches::spent` meets its contract: no cell that was passed has 65,535 as its own number.
 use native.Mathlib.Omega.{arith}
-use borrow.Author.Tests.{eq-eqb, ne_eqb}
-use Rattle.searches.proofs.Cells.{Looked, search_begins, search_misses, cell_inside, own_inside, search_finds, search_goes}
-use Rattle.searches.proofs.spent.Invariants.{asked}
+use borrow.Author.Tests.{ne_eqb}
+use Rattle.searches.proofs.Cells.{Looked, search_begins, search_misses, cell_inside, own_inside, search_goes}
+use Rattle.searches.proofs.Finds.{spent_asked}
 use Rattle.searches.proofs.spent.Goals as goal
 use Rattle.searches.proofs.spent.Goals.{After-lowest-z}
 
 -- The cell that is looked at.
 looked : (c : After-lowest-z) → let start = c.args in
-    Looked start.m start.set (asked start.m start.body.now) start.body.now
+    Looked start.m start.set (spent_asked start.m start.body.now) start.body.now
     c.loop-left.left c.lowest-z.result
 looked c = record { among = c.requires; searched = c.loop-left.invariant; least = c.lowest-z.ensures }
 
@@ -26,11 +26,6 @@ bounds-body-own_number c = omega (arith, own_inside (looked (goal.at.bounds-body
 
 pub overflow_cast-result : goal.overflow_cast-result
 overflow_cast-result c = let at = looked (goal.at.overflow_cast-result c).After-lowest-z in record { fits = omega (arith, cell_inside at, at.among.few) }
-
-pub returns-then-body-own_number-eq-MOST_NUMBER : goal.returns-then-body-own_number-eq-MOST_NUMBER
-returns-then-body-own_number-eq-MOST_NUMBER c =
-    search_finds (looked (goal.at.returns-then-body-own_number-eq-MOST_NUMBER c).After-lowest-z)
-    (eq-eqb _ _ (rw c.own_number.ensures at c.if-body-own_number-eq-MOST_NUMBER.true))
 
 pub without-left-requires : goal.without-left-requires
 without-left-requires c = let least = c.lowest-z.ensures in (least.low, least.inside)

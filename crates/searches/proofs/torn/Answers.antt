@@ -1,14 +1,14 @@
 -- `searches::torn` meets its contract: no cell that was passed has a number below the other.
 use native.Mathlib.Omega.{arith}
-use borrow.Author.Tests.{lt-ltb, le-ltb}
-use Rattle.searches.proofs.Cells.{Looked, search_begins, search_misses, cell_inside, search_finds, search_goes}
-use Rattle.searches.proofs.torn.Invariants.{asked}
+use borrow.Author.Tests.{le-ltb}
+use Rattle.searches.proofs.Cells.{Looked, search_begins, search_misses, cell_inside, search_goes}
+use Rattle.searches.proofs.Finds.{torn_asked}
 use Rattle.searches.proofs.torn.Goals as goal
 use Rattle.searches.proofs.torn.Goals.{After-lowest-y}
 
 -- The cell that is looked at.
 looked : (c : After-lowest-y) → let start = c.args in
-    Looked start.m start.set (asked start.body.now start.held start.numbers) start.body.now
+    Looked start.m start.set (torn_asked start.body.now start.held start.numbers) start.body.now
     c.loop-left.left c.lowest-y.result
 looked c = record { among = c.requires.0; searched = c.loop-left.invariant; least = c.lowest-y.ensures }
 
@@ -36,9 +36,6 @@ bounds-body-numbers c = omega (arith, cell_inside (looked (goal.at.bounds-body-n
 pub overflow_cast-result : goal.overflow_cast-result
 overflow_cast-result c = let at = looked (goal.at.overflow_cast-result c).After-lowest-y in record { fits = omega (arith, cell_inside at, at.among.few) }
 
-pub returns-then-body-held : goal.returns-then-body-held
-returns-then-body-held c = search_finds (looked (goal.at.returns-then-body-held c).After-lowest-y) (lt-ltb _ _ c.if-body-held.true)
-
 pub without-left-requires : goal.without-left-requires
 without-left-requires c = let least = c.lowest-y.ensures in (least.low, least.inside)
 
@@ -46,7 +43,7 @@ pub loop-left-smaller : goal.loop-left-smaller
 loop-left-smaller c = c.without-left.ensures.less
 
 pub loop-left-preserved : goal.loop-left-preserved
-loop-left-preserved c = search_goes (looked (goal.at.loop-left-preserved c).After-lowest-y) c.without-left.ensures (le-ltb _ _ c.if-body-held.false)
+loop-left-preserved c = search_goes (looked (goal.at.loop-left-preserved c).After-lowest-y) c.without-left.ensures (le-ltb _ _ (omega arith))
 
 pub returns : goal.returns
 returns c = search_misses _ c.loop-left.invariant (omega arith)

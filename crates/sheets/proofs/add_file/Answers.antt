@@ -2,11 +2,8 @@
 use mathlib.Core.Path.{sym, ap, ◌∙◌}
 use native.Mathlib.Omega.{arith}
 use Rattle.schedule.specs.Meaning.{admission_is}
-use Rattle.sheets.proofs.Adds.{add_short, add_bad}
+use Rattle.sheets.proofs.Adds.{add_bad}
 use Rattle.sheets.proofs.add_file.Goals as goal
-
-pub returns-then-sheet-lt-SHEET_WORDS : goal.returns-then-sheet-lt-SHEET_WORDS
-returns-then-sheet-lt-SHEET_WORDS c = add_short _ _ (omega arith)
 
 pub add_admitted-requires : goal.add_admitted-requires
 add_admitted-requires c = (omega arith, ap admission_is (sym c.in-Sound.is) ∙ c.admit_file.ensures.replied)

@@ -8,16 +8,13 @@ use Rattle.rules.specs.steps.Codes.{Step, begin, try, give_up, read, write, Kind
 use Rattle.checks.specs.Meaning.{kind_is}
 use Rattle.checks.proofs.OneStep.{for_kind, no_step_lem}
 use Rattle.judge.proofs.Answers.{stale_told}
-use Rattle.judge.proofs.Tests.{too_many, room_left, begin_passes, give_up_passes, write_passes, read_passes, try_too_many}
+use Rattle.judge.proofs.Tests.{too_many, begin_passes, give_up_passes, write_passes, read_passes, try_too_many}
 use Rattle.judge.proofs.reading.is_too_many.Goals as goal
 
 -- A step of this kind is not one commit too many.
 passing : (words : List ℕ) (i : ℕ) {kind : Kind} (t : Step) → kind ≡ known t → false ≡ too_many words i t
     → (s : Step) → kind ≡ known s → false ≡ too_many words i s
 passing words i = for_kind (λ s. false ≡ too_many words i s)
-
-pub returns-then-count-lt-COMMIT_TABLE : goal.returns-then-count-lt-COMMIT_TABLE
-returns-then-count-lt-COMMIT_TABLE c s e = room_left c.args.words.now c.args.i (omega arith) s
 
 pub handler_row-requires : goal.handler_row-requires
 handler_row-requires c = let ready = c.requires.2 in omega (arith, ready.handler, ready.ledger.range.handlers)
@@ -34,7 +31,7 @@ pub returns-in-Try : goal.returns-in-Try
 returns-in-Try c = let ready = c.requires.2 in
     for_kind (λ s. c.is_nothing.result ≡ too_many c.args.words.now c.args.i s) try (ap kind_is c.in-Try.is)
     (c.is_nothing.ensures
-    ∙ try_too_many _ _ ready.ledger ready.handler (omega (arith, c.if-count-lt-COMMIT_TABLE.false))
+    ∙ try_too_many _ _ ready.ledger ready.handler (omega arith)
     (stale_told ready c.handler_row.ensures c.overtaken_cell.ensures))
 
 pub returns-in-Begin : goal.returns-in-Begin
