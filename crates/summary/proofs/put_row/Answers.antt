@@ -6,9 +6,9 @@ use Rattle.sheets.specs.Sheets.{counted}
 use Rattle.summary.specs.Texts.{row_text}
 use Rattle.summary.proofs.Rows.{row_puts}
 use Rattle.summary.proofs.put_row.Goals as goal
-use Rattle.summary.proofs.put_row.Goals.{After-put_count-given_up, After-put_count-spent, After-put_count-torn, After-put_text}
+use Rattle.summary.proofs.put_row.Goals.{After-put_count-given_up, After-put_count-torn, After-put_text}
 
--- Where the first three counts end, where the first five do, and where all end.
+-- Where the first three counts end.
 three_end : (c : After-put_count-torn) → c.put_count-torn.result ≤ c.args.at + 74
 three_end c = omega (
   arith,
@@ -18,30 +18,10 @@ three_end c = omega (
   c.put_count-torn.ensures.upper_bound,
 )
 
-five_end : (c : After-put_count-spent) → c.put_count-spent.result ≤ c.args.at + 110
-five_end c =
-    omega (
-      arith,
-      c.put_named-named.ensures.upper_bound,
-      c.put_count-begun.ensures.upper_bound,
-      c.put_count-committed.ensures.upper_bound,
-      c.put_count-torn.ensures.upper_bound,
-      c.put_count-overtaken.ensures.upper_bound,
-      c.put_count-spent.ensures.upper_bound,
-    )
-
-all_end : (c : After-put_count-given_up) → c.put_count-given_up.result ≤ c.args.at + 128
-all_end c =
-    omega (
-      arith,
-      c.put_named-named.ensures.upper_bound,
-      c.put_count-begun.ensures.upper_bound,
-      c.put_count-committed.ensures.upper_bound,
-      c.put_count-torn.ensures.upper_bound,
-      c.put_count-overtaken.ensures.upper_bound,
-      c.put_count-spent.ensures.upper_bound,
-      c.put_count-given_up.ensures.upper_bound,
-    )
+-- How far behind them the last three end.
+rest_end : (c : After-put_count-given_up) → c.put_count-given_up.result ≤ c.put_count-torn.result + 54
+rest_end c =
+    omega (arith, c.put_count-overtaken.ensures.upper_bound, c.put_count-spent.ensures.upper_bound, c.put_count-given_up.ensures.upper_bound)
 
 -- The whole line is put.
 row_put : (c : After-put_text) → let given = c.args in
@@ -72,17 +52,33 @@ put_count-spent-requires c = (
 )
 
 pub put_count-given_up-requires : goal.put_count-given_up-requires
-put_count-given_up-requires c =
-    (c.requires.1, omega arith, omega (arith, five_end (goal.at.put_count-given_up-requires c).After-put_count-spent, c.requires.0), omega arith)
+put_count-given_up-requires c = (
+  c.requires.1,
+  omega arith,
+  omega (
+    arith,
+    three_end (goal.at.put_count-given_up-requires c).After-put_count-torn,
+    c.put_count-overtaken.ensures.upper_bound,
+    c.put_count-spent.ensures.upper_bound,
+    c.requires.0,
+  ),
+  omega arith,
+)
 
 pub put_text-requires : goal.put_text-requires
-put_text-requires c = (omega (arith, all_end (goal.at.put_text-requires c).After-put_count-given_up, c.requires.0), omega arith)
+put_text-requires c = let called = goal.at.put_text-requires c in
+    (omega (arith, three_end called.After-put_count-torn, rest_end called.After-put_count-given_up, c.requires.0), omega arith)
 
 pub shape_of-buffer : goal.shape_of-buffer
 shape_of-buffer c = (row_put (goal.at.shape_of-buffer c).After-put_text).size
 
 pub returns : goal.returns
-returns c = record {
-  puts = row_put (goal.at.returns c).After-put_text;
-  upper_bound = omega (arith, all_end (goal.at.returns c).After-put_count-given_up, c.put_text.ensures.ends);
+returns c = let called = goal.at.returns c in record {
+  puts = row_put called.After-put_text;
+  upper_bound = omega (
+    arith,
+    three_end called.After-put_count-torn,
+    rest_end called.After-put_count-given_up,
+    c.put_text.ensures.ends,
+  );
 }

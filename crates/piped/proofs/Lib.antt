@@ -1,0 +1,2 @@
+-- What is printed of a file, told by its front.
+pub mod Fronts
