@@ -20,39 +20,24 @@ laid : (c : After-body_words-end) → let span = c.block_at-block.result in
 laid c =
     blocks_laid (c.requires.0, c.requires.1) c.block_at-block.ensures c.transaction_numbers-behind.ensures c.body_words-end.ensures
 
+-- So they are where a block is at hand.
+still_laid : (c : In-loop-at) → let span = c.block_at-block.result in
+    BlocksLaid c.args.m c.args.n span.start (span.end - span.start) c.transaction_numbers-behind.result c.body_words-end.result
+still_laid c =
+    blocks_laid (c.requires.0, c.requires.1) c.block_at-block.ensures c.transaction_numbers-behind.ensures c.body_words-end.ensures
+
 -- The block at hand ends where the words do or before.
 ends : (c : In-loop-at) → let args = c.args in c.loop-at.at + handler_long args.m ≤ length args.body.now
-ends c =
-    omega (
-      arith,
-      row_inside c.loop-at.invariant
-          (omega (
-            arith,
-            (blocks_laid (c.requires.0, c.requires.1) c.block_at-block.ensures c.transaction_numbers-behind.ensures
-                c.body_words-end.ensures).whole,
-          )),
-      c.requires.2,
-    )
+ends c = omega (arith, row_inside c.loop-at.invariant (omega (arith, (still_laid c).whole)), c.requires.2)
 
 -- There is a block at hand.
 here : (c : In-loop-at) → c.loop-at.invariant.row < c.args.n
-here c =
-    row_there c.loop-at.invariant
-    (omega (
-      arith,
-      (blocks_laid (c.requires.0, c.requires.1) c.block_at-block.ensures c.transaction_numbers-behind.ensures
-          c.body_words-end.ensures).whole,
-    ))
+here c = row_there c.loop-at.invariant (omega (arith, (still_laid c).whole))
 
 -- Where it lies.
 spans : (c : In-loop-at) → let at = c.loop-at.at in let span = c.block_at-block.result in
     let m = c.args.m in Spans (handler_start m c.loop-at.invariant.row) (handler_long m) at (at + (span.end - span.start))
-spans c =
-    omega (
-      arith,
-      c.loop-at.invariant.place,
-      (blocks_laid (c.requires.0, c.requires.1) c.block_at-block.ensures c.transaction_numbers-behind.ensures c.body_words-end.ensures).row,
-    )
+spans c = omega (arith, c.loop-at.invariant.place, (still_laid c).row)
 
 pub block_at-block-requires : goal.block_at-block-requires
 block_at-block-requires c = (omega arith, omega arith)
