@@ -8,8 +8,7 @@ ghost use Rattle.replies.specs.Meaning.{outcome_is};
 ghost use Rattle.steps.specs.Takes.{Seated, Ready, Unread, Takes};
 
 use places::{block_at, cell_at};
-use replies::{Content, Outcome, Reason};
-use words::Found;
+use replies::{Outcome, Reason};
 
 // Whether the handler's transaction is open.
 pub fn is_open(body: &[u32], m: usize, n: usize, i: usize) -> bool
@@ -69,7 +68,7 @@ fn first_read(body: &mut [u32], m: usize, n: usize, i: usize, x: usize) -> Outco
     let end = span.end;
     let held = start + places::transaction_numbers(m);
     let set = body[start + places::READ_SET];
-    if let Found::Cell(y) = searches::torn(body, m, set, held, numbers) {
+    if let Some(y) = searches::torn(body, m, set, held, numbers) {
         block::rest(&mut body[start..end], m);
         return Outcome::Aborted(Reason::Torn(y));
     }
@@ -91,7 +90,7 @@ pub fn read(body: &mut [u32], m: usize, n: usize, i: usize, x: usize) -> Outcome
     let written = body[start + places::WRITTEN_SET];
     let copies = start + places::copies(m);
     if words::has(written, x) {
-        return Outcome::Shows(Content::Value(body[copies + x]));
+        return Outcome::Shows(Some(body[copies + x]));
     }
     if words::has(read, x) {
         let number = body[start + places::transaction_numbers(m) + x];

@@ -5,7 +5,6 @@ ghost use Rattle.steps.specs.Takes.{Ready, Takes, Commits};
 
 use places::block_at;
 use replies::{Outcome, Reason};
-use words::Found;
 
 // A commit: the numbers are raised in the transaction's row, the written cells take it, and then the handler.
 fn commit(body: &mut [u32], m: usize, n: usize, i: usize)
@@ -34,11 +33,11 @@ pub fn attempt(body: &mut [u32], m: usize, n: usize, i: usize) -> Outcome
     let read = body[start + places::READ_SET];
     let written = body[start + places::WRITTEN_SET];
     let held = start + places::transaction_numbers(m);
-    if let Found::Cell(z) = searches::overtaken(body, m, read, held) {
+    if let Some(z) = searches::overtaken(body, m, read, held) {
         block::rest(&mut body[start..end], m);
         return Outcome::Aborted(Reason::Overtaken(z));
     }
-    if let Found::Cell(z) = searches::spent(body, m, written) {
+    if let Some(z) = searches::spent(body, m, written) {
         block::rest(&mut body[start..end], m);
         return Outcome::Aborted(Reason::Spent(z));
     }
