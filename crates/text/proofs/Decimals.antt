@@ -47,3 +47,15 @@ spelled_short (suc turns) (suc k) n below = by (ltb n 10) (λ small. rw small (o
 -- A number has no more digits than that.
 pub decimal_short : (k n : ℕ) → n < tens k → length (decimal n) ≤ suc k
 decimal_short k n below = spelled_short n k n below
+
+-- A number below ten is its own last digit.
+pub digit_small : (n : ℕ) → n < 10 → n % 10 ≡ n
+digit_small n small = omega (arith, small)
+
+-- So a digit is alone,
+pub digit_alone : (n : ℕ) → n < 10 → length (decimal n) ≤ 1
+digit_alone n small = decimal_short 0 n small
+
+-- and a byte has at most three digits.
+pub byte_short : (n : ℕ) → n < 256 → length (decimal n) ≤ 3
+byte_short n small = decimal_short 2 n (omega (arith, small))

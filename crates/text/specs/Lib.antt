@@ -1,3 +1,4 @@
 -- Texts as bytes, and texts in a buffer.
 pub mod Bytes
 pub mod Lies
+pub mod Pages

@@ -1,0 +1,6 @@
+use Rattle.std.proofs.Common.{take}
+use Rattle.text.specs.Pages.{Writes}
+use Rattle.text.proofs.Page.put_text.Given as goal
+
+abbrev pub invariant-loop-byte : goal.invariant-loop-byte
+invariant-loop-byte l = Writes (take l.byte-index l.text) l.initial.self l.self
