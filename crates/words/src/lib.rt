@@ -9,13 +9,6 @@ ghost use Rattle.layout.specs.Bits.{has_bit, with_bit};
 ghost use Rattle.words.specs.Rows.{Changed, RowOf};
 ghost use Rattle.words.specs.Sets.{Lowest, Without};
 
-// What a search among the cells finds: the lowest cell that passes its test, or none.
-#[derive(Clone, Copy)]
-pub enum Found {
-    Nothing,
-    Cell(u8),
-}
-
 // Whether cell c is in the set.
 pub fn has(set: u32, c: usize) -> bool
     requires { c < most_cells }
@@ -53,9 +46,7 @@ pub fn clear(words: &mut [u32], from: usize, count: usize)
     requires { from + count ≤ length words.old }
     ensures { Changed from count zeros words.old words.new }
 {
-    for y in 0..count {
-        words[from + y] = 0;
-    }
+    words[from..from + count].fill(0);
 }
 
 // Copies a row to a place where no word of it lies.
@@ -63,9 +54,7 @@ pub fn copy(words: &mut [u32], from: usize, to: usize, count: usize)
     requires { ((from + count ≤ to) ⊎ (to + count ≤ from)) × (from + count ≤ length words.old) × (to + count ≤ length words.old) }
     ensures { Changed to count (λ y. get_or words.old (from + y) 0) words.old words.new }
 {
-    for y in 0..count {
-        words[to + y] = words[from + y];
-    }
+    words.copy_within(from..from + count, to);
 }
 
 // A row of a word a cell, copied out.
@@ -74,8 +63,6 @@ pub fn copy_out(words: &[u32], from: usize, count: usize) -> [u32; limits::ROW]
     ensures { RowOf count (λ y. get_or words.now (from + y) 0) result }
 {
     let mut row = [0u32; limits::ROW];
-    for y in 0..count {
-        row[y] = words[from + y];
-    }
+    row[..count].copy_from_slice(&words[from..from + count]);
     row
 }
