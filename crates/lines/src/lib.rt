@@ -1,24 +1,24 @@
-// The lines of a run: what an order place shows, and the bytes of each line, put into a lent buffer.
+// The lines of a run: what an order place shows, and the bytes of each line, put on a page.
 // Internal: called by our crates alone, which show what each function requires. A place's line fits in `limits::LONGEST_LINE` bytes.
 #![tactic(auto)]
 
-ghost use Rattle.std.specs.Prelude.{◌+◌, ◌*◌, ◌≤◌};
+ghost use Rattle.std.specs.Prelude.{◌+◌, ◌*◌, ◌≤◌, ◌++◌};
 ghost use Rattle.limits.specs.Limits.{most_file_bytes, longest_line};
-ghost use Rattle.std.proofs.Math.Option.{some};
 ghost use Rattle.rules.specs.steps.Replies.{reason_cell};
 ghost use Rattle.replies.specs.Meaning.{reason_is, content_is, outcome_is, refusal_is, reply_is};
 ghost use Rattle.replies.specs.Ends.{end_is};
+ghost use Rattle.text.specs.Bytes.{ascii, decimal};
 ghost use Rattle.text.specs.Lies.{farthest};
 ghost use Rattle.text.specs.Pages.{Writes};
 ghost use Rattle.lines.specs.Lines.{line_is};
 ghost use Rattle.lines.specs.Texts.{front_text, content_text, named_text, abort_text, outcome_text};
 ghost use Rattle.lines.specs.Texts.{refusal_text, reply_text, place_text, header_text, end_text, refused_text};
 
-use replies::{Answer, Content, End, Outcome, Reason, Refusal};
+use replies::{CellEnd, Outcome, Reason, Refusal, Report};
 use text::Page;
 
 // What a place shows: nothing where the order has no such place, a refusal where no step was taken, or the answer to a step.
-#[derive(Clone, Copy)]
+#[derive(Clone, Copy, Debug, PartialEq, Eq)]
 pub enum Shown {
     Nothing,
     NoStep {
@@ -28,61 +28,63 @@ pub enum Shown {
     Asked {
         handler: u8,
         code: u8,
-        answer: Answer,
+        answer: Result<Report, Refusal>,
     },
 }
 
-// Puts a refusal at a place of a buffer.
+// Puts a number and a space behind it.
+fn put_spaced(page: &mut Page<'_>, n: u32)
+    requires { page.old.end ≤ farthest + 64 }
+    ensures puts { Writes (decimal n ++ ascii " ") page.old page.new }
+    ensures upper_bound { page.new.end ≤ page.old.end + 11 }
+{
+    page.put_number(n);
+    page.put_text(b" ");
+}
+
+// Puts a refusal.
 fn put_refusal(page: &mut Page<'_>, refusal: Refusal)
     requires { page.old.end ≤ farthest + 64 }
     ensures puts { Writes (refusal_text (refusal_is refusal)) page.old page.new }
     ensures upper_bound { page.new.end ≤ page.old.end + 18 }
 {
     page.put_text(b"refused ");
-    page.put_number(replies::refusal_number(refusal))
+    page.put_number(replies::refusal_number(refusal));
 }
 
 // Puts what is shown of a cell.
-fn put_content(page: &mut Page<'_>, content: Content)
+fn put_content(page: &mut Page<'_>, content: Option<u32>)
     requires { page.old.end ≤ farthest + 64 }
     ensures puts { Writes (content_text (content_is content)) page.old page.new }
     ensures upper_bound { page.new.end ≤ page.old.end + 18 }
 {
     match content {
-        Content::Unset => page.put_text(b"unset"),
-        Content::Value(value) => {
+        None => page.put_text(b"unset"),
+        Some(value) => {
             page.put_text(b"value ");
-            page.put_number(value)
+            page.put_number(value);
         }
     }
 }
 
-// Puts the cell that an abort names.
-#[tactic(auto, using(text::proofs::Decimals::byte_short))]
-fn put_named(page: &mut Page<'_>, cell: u8)
-    requires { page.old.end ≤ farthest + 96 }
-    ensures puts { Writes (named_text (some cell)) page.old page.new }
-    ensures upper_bound { page.new.end ≤ page.old.end + 9 }
-{
-    page.put_text(b" cell ");
-    page.put_number(cell as u32)
-}
-
 // Puts the cell that a reason names, if it names one.
+#[tactic(auto, using(text::proofs::Decimals::widths))]
 fn put_cell_of(page: &mut Page<'_>, reason: Reason)
     requires { page.old.end ≤ farthest + 96 }
     ensures puts { Writes (named_text (reason_cell (reason_is reason))) page.old page.new }
     ensures upper_bound { page.new.end ≤ page.old.end + 9 }
 {
     match reason {
-        Reason::Torn(y) => put_named(page, y),
-        Reason::Overtaken(z) => put_named(page, z),
-        Reason::Spent(z) => put_named(page, z),
+        Reason::Torn(cell) | Reason::Overtaken(cell) | Reason::Spent(cell) => {
+            page.put_text(b" cell ");
+            page.put_number(cell as u32);
+        }
         Reason::GaveUp => {}
     }
 }
 
 // Puts an abort: its number, and the cell that it names.
+#[tactic(auto, using(crate::proofs::Reasons::reason_short))]
 fn put_abort(page: &mut Page<'_>, reason: Reason)
     requires { page.old.end ≤ farthest + 64 }
     ensures puts { Writes (abort_text (reason_is reason)) page.old page.new }
@@ -90,7 +92,7 @@ fn put_abort(page: &mut Page<'_>, reason: Reason)
 {
     page.put_text(b"abort ");
     page.put_number(replies::reason_number(reason));
-    put_cell_of(page, reason)
+    put_cell_of(page, reason);
 }
 
 // Puts what a step came to.
@@ -108,36 +110,32 @@ fn put_outcome(page: &mut Page<'_>, outcome: Outcome)
 }
 
 // Puts the answer to a step: what the report says that it came to, or else the refusal.
-fn put_answer(page: &mut Page<'_>, answer: Answer)
+fn put_answer(page: &mut Page<'_>, answer: Result<Report, Refusal>)
     requires { page.old.end ≤ farthest + 64 }
     ensures puts { Writes (reply_text (reply_is answer)) page.old page.new }
     ensures upper_bound { page.new.end ≤ page.old.end + 18 }
 {
-    let Answer::Reported(report) = answer else {
-        let numbers = replies::numbers_of(answer);
+    let Ok(report) = answer else {
         page.put_text(b"refused ");
-        page.put_number(numbers.detail);
+        page.put_number(replies::numbers_of(answer).detail);
         return;
     };
-    let outcome = report.outcome;
-    put_outcome(page, outcome)
+    put_outcome(page, report.outcome);
 }
 
 // Puts the front of a place's line: the place and the handler.
-#[tactic(auto, using(text::proofs::Decimals::byte_short))]
+#[tactic(auto, using(text::proofs::Decimals::widths))]
 fn put_start(page: &mut Page<'_>, place: usize, handler: u8)
     requires { (page.old.end ≤ farthest) × (place ≤ most_file_bytes) }
     ensures puts { Writes (front_text place handler) page.old page.new }
     ensures upper_bound { page.new.end ≤ page.old.end + 10 }
 {
-    page.put_number(place as u32);
-    page.put_text(b" ");
-    page.put_number(handler as u32);
-    page.put_text(b" ")
+    put_spaced(page, place as u32);
+    put_spaced(page, handler as u32);
 }
 
 // Puts the line of an order place, if it shows one.
-#[tactic(auto, using(text::proofs::Decimals::byte_short), unfolding(crate::specs::Texts::line_text))]
+#[tactic(auto, using(text::proofs::Decimals::widths), unfolding(crate::specs::Texts::line_text))]
 pub fn put_place(page: &mut Page<'_>, place: usize, shown: Shown)
     requires { (page.old.end ≤ farthest) × (place ≤ most_file_bytes) }
     ensures puts { Writes (place_text (line_is place shown)) page.old page.new }
@@ -150,7 +148,7 @@ pub fn put_place(page: &mut Page<'_>, place: usize, shown: Shown)
             page.put_text(b"-");
             page.put_text(b" ");
             put_refusal(page, refusal);
-            page.put_text(b"\n")
+            page.put_text(b"\n");
         }
         Shown::Asked {
             handler,
@@ -158,10 +156,9 @@ pub fn put_place(page: &mut Page<'_>, place: usize, shown: Shown)
             answer,
         } => {
             put_start(page, place, handler);
-            page.put_number(code as u32);
-            page.put_text(b" ");
+            put_spaced(page, code as u32);
             put_answer(page, answer);
-            page.put_text(b"\n")
+            page.put_text(b"\n");
         }
     }
 }
@@ -177,27 +174,23 @@ pub fn put_header(page: &mut Page<'_>, handlers: u32, cells: u32)
     page.put_number(handlers);
     page.put_text(b" cells ");
     page.put_number(cells);
-    page.put_text(b"\n")
+    page.put_text(b"\n");
 }
 
 // Puts the line of a cell at the end, if there is such a cell.
 #[tactic(auto, unfolding(crate::specs::Texts::cell_text))]
-pub fn put_cell(page: &mut Page<'_>, c: u32, end: End)
+pub fn put_cell(page: &mut Page<'_>, c: u32, end: Option<CellEnd>)
     requires { page.old.end ≤ farthest }
     ensures puts { Writes (end_text c (end_is end)) page.old page.new }
     ensures upper_bound { page.new.end ≤ page.old.end + 2 * longest_line }
 {
-    match end {
-        End::Cell { content, number } => {
-            page.put_text(b"cell ");
-            page.put_number(c);
-            page.put_text(b" ");
-            put_content(page, content);
-            page.put_text(b" number ");
-            page.put_number(number);
-            page.put_text(b"\n")
-        }
-        End::Missing => {}
+    if let Some(CellEnd { content, number }) = end {
+        page.put_text(b"cell ");
+        put_spaced(page, c);
+        put_content(page, content);
+        page.put_text(b" number ");
+        page.put_number(number);
+        page.put_text(b"\n");
     }
 }
 
@@ -209,5 +202,5 @@ pub fn put_refused(page: &mut Page<'_>, refusal: Refusal)
     ensures upper_bound { page.new.end ≤ page.old.end + longest_line }
 {
     put_refusal(page, refusal);
-    page.put_text(b"\n")
+    page.put_text(b"\n");
 }

@@ -52,10 +52,13 @@ decimal_short k n below = spelled_short n k n below
 pub digit_small : (n : ℕ) → n < 10 → n % 10 ≡ n
 digit_small n small = omega (arith, small)
 
--- So a digit is alone,
-pub digit_alone : (n : ℕ) → n < 10 → length (decimal n) ≤ 1
-digit_alone n small = decimal_short 0 n small
-
--- and a byte has at most three digits.
+-- So a byte has at most three digits,
 pub byte_short : (n : ℕ) → n < 256 → length (decimal n) ≤ 3
 byte_short n small = decimal_short 2 n (omega (arith, small))
+
+-- and a word of two bytes at most five.
+pub word_short : (n : ℕ) → n < 65536 → length (decimal n) ≤ 5
+word_short n small = decimal_short 4 n (omega (arith, small))
+
+-- How wide numbers and texts behind one another are.
+pub ruleset widths = (byte_short, word_short, length-append)
