@@ -3,11 +3,12 @@
 #![tactic(auto)]
 
 ghost use Rattle.std.specs.Prelude.{◌≡◌, true, ◌⊎◌, ◌+◌, ◌≤◌, ◌<◌, length, get_or};
+ghost use Rattle.std.specs.Iterator.{at_most};
 ghost use Rattle.rules.specs.steps.Register.{zeros};
 ghost use Rattle.limits.specs.Limits.{most_cells};
 ghost use Rattle.layout.specs.Bits.{has_bit, with_bit};
 ghost use Rattle.words.specs.Rows.{Changed, RowOf};
-ghost use Rattle.words.specs.Sets.{Lowest, Without};
+ghost use Rattle.words.specs.Sets.{Lowest, Without, TakesLowest};
 
 // Whether cell c is in the set.
 pub fn has(set: u32, c: usize) -> bool
@@ -39,6 +40,39 @@ pub fn without(set: u32, c: usize) -> u32
     ensures { Without set c result }
 {
     set - (1u32 << c)
+}
+
+// The cells of a set that are left, the lowest first.
+#[derive(Clone, Drop)]
+pub struct Cells {
+    pub left: u32,
+}
+
+impl Cells {
+    // All cells of a set.
+    pub fn of(set: u32) -> Cells
+        ensures { result.left ≡ set }
+    {
+        Cells { left: set }
+    }
+}
+
+impl Iterator for Cells {
+    type Item = usize;
+
+    ghost next_gives = { TakesLowest };
+
+    ghost remaining = { λ cells. at_most cells.left };
+
+    // Takes the lowest cell that is left.
+    fn next(&mut self) -> Option<usize> {
+        if self.left == 0 {
+            return None;
+        }
+        let cell = lowest(self.left);
+        self.left = without(self.left, cell);
+        Some(cell)
+    }
 }
 
 // Clears so many words from a place on.
