@@ -8,6 +8,7 @@ ghost use Rattle.text.specs.Lies.{farthest};
 ghost use Rattle.text.specs.Pages.{Writes};
 
 // A text that is put into a lent buffer as far as there is room, and counted all the same, as C's snprintf does.
+#[derive(Drop)]
 pub struct Page<'a> {
     pub buffer: &'a mut [u8],
     pub end: usize,
