@@ -1,4 +1,5 @@
--- What is put on a page.
+-- A text that is put on a page, which carries the lent buffer and the place up to which it is filled. Whoever puts a text ensures besides
+-- that the page is over the same buffer still, so that its lender knows what became of it.
 use Rattle.std.specs.Prelude.{ℕ, ◌≡◌, List}
 use Rattle.text.specs.declared.Page.{Page}
 use Rattle.text.specs.Lies.{Puts}

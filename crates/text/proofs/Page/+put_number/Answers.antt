@@ -1,4 +1,4 @@
--- `text::put_number` meets its contract: a tenth of the number is put first, and its last digit behind it.
+-- `text::Page::put_number` meets its contract: a tenth of the number is put first, and its last digit behind it.
 use Rattle.std.proofs.Common.{arith, sym}
 use Rattle.text.specs.Bytes.{decimal}
 use Rattle.text.specs.Pages.{Writes}

@@ -1,3 +1,4 @@
+-- `text::Page::put_text` meets its contract: byte by byte, as much of the text as was gone through is put.
 use Rattle.std.proofs.Common.{take}
 use Rattle.text.specs.Pages.{Writes}
 use Rattle.text.proofs.Page.put_text.Given as goal
