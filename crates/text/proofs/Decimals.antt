@@ -18,7 +18,11 @@ turns_enough (suc turns) zero n le ge = rw (lt-ltb n 10 (omega (arith, ge)))
 turns_enough (suc turns) (suc more) n le ge = by (ltb n 10) (λ small. rw small) (λ large.
     rw large (ap (◌++ digit (n % 10)) (turns_enough turns more (n / 10) (omega arith) (omega arith))))
 
--- A number below ten is its digit,
+-- A number below ten is its own last digit,
+pub digit_small : (n : ℕ) → n < 10 → n % 10 ≡ n
+digit_small n small = omega (arith, small)
+
+-- and is spelled by it;
 pub decimal_digit : (n : ℕ) → n < 10 → decimal n ≡ digit n
 unfolding spelled
 decimal_digit zero small = refl
@@ -47,3 +51,14 @@ spelled_short (suc turns) (suc k) n below = by (ltb n 10) (λ small. rw small (o
 -- A number has no more digits than that.
 pub decimal_short : (k n : ℕ) → n < tens k → length (decimal n) ≤ suc k
 decimal_short k n below = spelled_short n k n below
+
+-- So a byte has at most three digits,
+pub byte_short : (n : ℕ) → n < 256 → length (decimal n) ≤ 3
+byte_short n small = decimal_short 2 n (omega (arith, small))
+
+-- and a word of two bytes at most five.
+pub word_short : (n : ℕ) → n < 65536 → length (decimal n) ≤ 5
+word_short n small = decimal_short 4 n (omega (arith, small))
+
+-- How wide such numbers are, and texts behind one another.
+pub ruleset widths = (byte_short, word_short, length-append)
