@@ -1,34 +1,16 @@
--- `schedule::order_places` meets its promise: none in a file that is not sound, and else as many as its order has bytes.
-use mathlib.Core.Path.{◌≡◌, refl, sym, ap, ◌∙◌}
-use mathlib.Core.Bool.{true}
-use native.Mathlib.Omega.{arith}
-use lib.ListN.{length}
-use Rattle.schedule.specs.Sound.{is_sound_file}
-use Rattle.schedule.specs.Taking.{places_in}
-use Rattle.schedule.proofs.Sounds.{file_tested, head_there}
+use Rattle.std.proofs.Common.{rules, ◌≡◌, ◌+◌, ◌≤◌, length, ℕ, ◌-◌, ◌*◌, ◌<◌, ◌/◌, ◌%◌, Bool, true, false, nat_eq, nat_lt, List, [], ◌∷◌, ◌++◌, slice_index_or, slice_set, bit_and, bit_or, Fits, w8, w32, w64, Bor, MutBor}
+use Rattle.schedule.specs.Bytes.{bytes_at}
+use Rattle.schedule.specs.Fronts.{ScriptAt}
+use Rattle.schedule.specs.Admitting.{AdmissionPromise}
+use Rattle.schedule.specs.Finding.{ScriptPromise, PartPromise, AnswerPromise}
+use Rattle.schedule.specs.Taking.{StartPromise, NextPromise, PlacesPromise}
+use Rattle.schedule.specs.Meaning.{admission_is, found_is, next_is}
 use Rattle.schedule.proofs.order_places.Goals as goal
-use Rattle.schedule.proofs.order_places.Goals.{Else-not-sound_file}
 
--- Past the test the file is sound.
-sound : (c : Else-not-sound_file) → is_sound_file c.args.file.now ≡ true
-sound c = sym c.sound_file.ensures ∙ c.if-not-sound_file.false
+-- src/lib.rt:117:1
+pub returns-in-Ok : goal.returns-in-Ok
+returns-in-Ok c = ?
 
-pub returns-then-not-sound_file : goal.returns-then-not-sound_file
-unfolding places_in
-returns-then-not-sound_file c = let unsound = sym c.sound_file.ensures ∙ c.if-not-sound_file.true in record { replied = rw unsound; left = refl }
-
-pub bounds-file-0 : goal.bounds-file-0
-unfolding places_in
-bounds-file-0 c = omega (arith, head_there ((file_tested _).0 (sound (goal.at.bounds-file-0 c).Else-not-sound_file)))
-
-pub overflow_cast-n : goal.overflow_cast-n
-unfolding places_in
-overflow_cast-n c = omega (arith, c.type_inv.file 0)
-
-pub body-order-requires : goal.body-order-requires
-unfolding places_in
-body-order-requires c = (_, ((file_tested _).0 (sound (goal.at.body-order-requires c).Else-not-sound_file)).table, omega arith)
-
-pub returns : goal.returns
-unfolding places_in
-returns c = record { replied = rw (sound (goal.at.returns c).Else-not-sound_file) (ap length c.body-order.ensures); left = refl }
+-- src/lib.rt:117:1
+pub returns-in-Err : goal.returns-in-Err
+returns-in-Err c = ?
