@@ -6,4 +6,5 @@ pub mod Admits
 pub mod Finds
 pub mod Takes
 pub mod Nexts
+pub mod Apart
 pub mod Exactly

@@ -14,14 +14,6 @@ pub fn order_byte(sound: &Sound, place: usize) -> Option<u8>
     sound.order().get(place).copied()
 }
 
-// The step in front of a handler's script, where that is used up to a place.
-fn next_of(sound: &Sound, handler: u8, at: usize) -> Result<Standing, Refusal> {
-    if sound.sizes.handlers <= handler as u32 {
-        return Err(Refusal::NoHandler);
-    }
-    in_front(sound.script(handler as usize), at, &checks::plain_table())
-}
-
 // The next step of the handler that an order byte names.
 pub fn named_step(sound: &Sound, cursors: Cursors, handler: u8) -> Step
     ensures { NamedNext sound.now.table.file.now cursors.at handler (next_is result.next) result.cursors.at }

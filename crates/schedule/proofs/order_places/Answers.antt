@@ -1,16 +1,9 @@
-use Rattle.std.proofs.Common.{rules, ◌≡◌, ◌+◌, ◌≤◌, length, ℕ, ◌-◌, ◌*◌, ◌<◌, ◌/◌, ◌%◌, Bool, true, false, nat_eq, nat_lt, List, [], ◌∷◌, ◌++◌, slice_index_or, slice_set, bit_and, bit_or, Fits, w8, w32, w64, Bor, MutBor}
-use Rattle.schedule.specs.Bytes.{bytes_at}
-use Rattle.schedule.specs.Fronts.{ScriptAt}
-use Rattle.schedule.specs.Admitting.{AdmissionPromise}
-use Rattle.schedule.specs.Finding.{ScriptPromise, PartPromise, AnswerPromise}
-use Rattle.schedule.specs.Taking.{StartPromise, NextPromise, PlacesPromise}
-use Rattle.schedule.specs.Meaning.{admission_is, found_is, next_is}
+-- `schedule::order_places` meets its promise: none in a file that is not sound, and else as many as its order has bytes.
+use Rattle.schedule.proofs.Nexts.{places_none, places_there}
 use Rattle.schedule.proofs.order_places.Goals as goal
 
--- src/lib.rt:117:1
 pub returns-in-Ok : goal.returns-in-Ok
-returns-in-Ok c = ?
+returns-in-Ok c = rw (c.order.ensures, ← c.in-Ok.ensures) (places_there c.in-Ok.sound.sound)
 
--- src/lib.rt:117:1
 pub returns-in-Err : goal.returns-in-Err
-returns-in-Err c = ?
+returns-in-Err c = places_none c.in-Err.ensures.0
