@@ -20,14 +20,14 @@ use crate::taking::{named_step, order_byte};
 use replies::Refusal;
 
 // How many handlers and cells a file has.
-#[derive(Clone, Copy)]
+#[derive(Clone, Copy, Debug, PartialEq, Eq)]
 pub struct Sizes {
     pub handlers: u32,
     pub cells: u32,
 }
 
 // A part of a file, by where it begins and how long it is.
-#[derive(Clone, Copy)]
+#[derive(Clone, Copy, Debug, PartialEq, Eq)]
 pub struct Part {
     pub offset: usize,
     pub length: usize,
@@ -45,13 +45,13 @@ impl Part {
 }
 
 // Of each handler, the place in its script up to which it is used up.
-#[derive(Clone, Copy)]
+#[derive(Clone, Copy, Debug, PartialEq, Eq)]
 pub struct Cursors {
     pub at: [usize; limits::HANDLER_TABLE],
 }
 
 // What comes next at an order place.
-#[derive(Clone, Copy)]
+#[derive(Clone, Copy, Debug, PartialEq, Eq)]
 pub enum Next {
     Rejected(Refusal),
     Over,
@@ -60,7 +60,7 @@ pub enum Next {
 }
 
 // What comes next, and the cursors afterwards.
-#[derive(Clone, Copy)]
+#[derive(Clone, Copy, Debug, PartialEq, Eq)]
 pub struct Step {
     pub next: Next,
     pub cursors: Cursors,
@@ -139,17 +139,13 @@ pub fn next_step(file: &[u8], cursors: Cursors, place: usize) -> Step
     let sound = match sound_file(file) {
         Ok(sound) => sound,
         Err(refusal) => {
-            return Step {
-                next: Next::Rejected(refusal),
-                cursors,
-            };
+            let next = Next::Rejected(refusal);
+            return Step { next, cursors };
         }
     };
-    match order_byte(&sound, place) {
-        None => Step {
-            next: Next::Over,
-            cursors,
-        },
-        Some(handler) => named_step(&sound, cursors, handler),
-    }
+    let Some(handler) = order_byte(&sound, place) else {
+        let next = Next::Over;
+        return Step { next, cursors };
+    };
+    named_step(&sound, cursors, handler)
 }

@@ -23,6 +23,27 @@ pub struct Sound<'a> {
 }
 
 impl<'a> Sound<'a> {
+    // What a file has, if it is sound.
+    fn of(file: &'a [u8]) -> Option<Sound<'a>>
+        ensures { MatchOption result (¬ SoundFile file.now) (λ sound. sound.table.file.now ≡ file.now) }
+    {
+        if file.len() > limits::MOST_FILE_BYTES {
+            return None;
+        }
+        let &[n, m, ..] = file else {
+            return None;
+        };
+        let sizes = Sizes {
+            handlers: n as u32,
+            cells: m as u32,
+        };
+        if !limits::in_range(sizes.cells, sizes.handlers) {
+            return None;
+        }
+        let table = Table::of(file, 2, n as usize + 1)?;
+        Some(Sound { sizes, table })
+    }
+
     // The script of a handler.
     pub fn script(&self, handler: usize) -> &'a [u8]
         requires { handler < self.now.sizes.handlers }
@@ -47,30 +68,10 @@ impl<'a> Sound<'a> {
     }
 }
 
-// What a file has, if it is sound.
-fn tested(file: &[u8]) -> Option<Sound<'_>>
-    ensures { MatchOption result (¬ SoundFile file.now) (λ sound. sound.table.file.now ≡ file.now) }
-{
-    if file.len() > limits::MOST_FILE_BYTES {
-        return None;
-    }
-    if file.len() < 2 {
-        return None;
-    }
-    let handlers = file[0] as u32;
-    let cells = file[1] as u32;
-    if !limits::in_range(cells, handlers) {
-        return None;
-    }
-    let table = Table::of(file, 2, handlers as usize + 1)?;
-    let sizes = Sizes { handlers, cells };
-    Some(Sound { sizes, table })
-}
-
 // What a file has, if it is sound, and else 30.
 pub fn sound_file(file: &[u8]) -> Result<Sound<'_>, Refusal>
     ensures { MatchResult result (λ sound. sound.table.file.now ≡ file.now)
         (λ refusal. (¬ SoundFile file.now) × (refusal_is refusal ≡ bad_file)) }
 {
-    tested(file).ok_or(Refusal::BadFile)
+    Sound::of(file).ok_or(Refusal::BadFile)
 }

@@ -5,8 +5,8 @@ use Rattle.schedule.proofs.next_step.Goals as goal
 pub returns-in-Err : goal.returns-in-Err
 returns-in-Err c = next_unsound _ _ _ c.in-Err.ensures
 
-pub returns-in-None : goal.returns-in-None
-returns-in-None c = rw (← c.in-Ok.ensures) (next_over _ _ _ c.in-Ok.sound.sound c.in-None.ensures)
+pub returns-in_default : goal.returns-in_default
+returns-in_default c = rw (← c.in-Ok.ensures) (next_over _ _ _ c.in-Ok.sound.sound c.in_default.ensures)
 
-pub returns-in-Some : goal.returns-in-Some
-returns-in-Some c = rw (← c.in-Ok.ensures) (next_named _ _ _ c.in-Ok.sound.sound c.in-Some.ensures c.named_step.ensures)
+pub returns : goal.returns
+returns c = rw (← c.in-Ok.ensures) (next_named _ _ _ c.in-Ok.sound.sound c.in-Some.ensures c.named_step.ensures)

@@ -1,8 +1,8 @@
--- `schedule::sound::tested` meets its contract: out of range, or as its table is.
+-- `schedule::sound::Sound::of` meets its contract: out of range, or as its table is.
 use Rattle.std.proofs.Common.{sym, ◌∙◌, arith}
 use Rattle.rules.proofs.steps.Given.{range_tested}
 use Rattle.rules.proofs.steps.Tables.{both_ways}
-use Rattle.schedule.proofs.sound.tested.Goals as goal
+use Rattle.schedule.proofs.sound.Sound.of.Goals as goal
 
 pub returns-then-not-in_range : goal.returns-then-not-in_range
 returns-then-not-in_range c = λ sound. both_ways ((range_tested _ _).1 sound.range) (sym c.in_range.ensures.replied ∙ c.if-not-in_range.true)
