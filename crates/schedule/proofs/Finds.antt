@@ -1,5 +1,5 @@
 -- A handler's script by its ways: not found with 30 or 11, and then at 0 and 0 long, or where the table's entry says; it lies in the file.
-use Rattle.std.proofs.Common.{ℕ, ◌≡◌, ◌+◌, ◌≤◌, ◌<◌, true, false, not, List, [], Result, Ok, Err, length, leb, refl, sym, ◌∙◌, arith}
+use Rattle.std.proofs.Common.{ℕ, ◌≡◌, ◌+◌, ◌≤◌, ◌<◌, not, List, [], Result, Ok, Err, length, refl, arith}
 use Rattle.std.proofs.Math.Option.{Option, none, some}
 use Rattle.std.specs.Result.{result_unwrap_or}
 use borrow.Author.Tests.{leb-false, le-leb, lt-leb, not-false}

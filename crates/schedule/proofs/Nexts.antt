@@ -1,11 +1,6 @@
 -- The next step at an order place by its ways, and the cursors that it leaves.
-use Prim.Native.Nat.{ℕ, ◌+◌, ◌≤◌, ◌<◌}
-use mathlib.Core.Path.{◌≡◌, refl, sym, ap, ◌∙◌}
-use mathlib.Core.Bool.{true, false}
-use mathlib.Core.List.{List}
-use mathlib.Core.Option.{some}
-use native.Mathlib.Omega.{arith}
-use lib.ListN.{length, set}
+use Rattle.std.proofs.Common.{ℕ, ◌≡◌, ◌+◌, ◌≤◌, ◌<◌, List, length, set, refl, sym, ap, ◌∙◌, arith}
+use Rattle.std.proofs.Math.Option.{some}
 use borrow.Author.Tests.{le-leb, lt-leb}
 use Rattle.rules.specs.steps.Codes.{plain_sheet}
 use Rattle.rules.specs.steps.Replies.{Refusal, bad_file, no_handler}

@@ -1,23 +1,13 @@
 -- The test of a table and of a file answers exactly the proposition, and each body of a sound table lies in the file.
-use Prim.Native.Nat.{ℕ, zero, suc, ◌+◌, ◌-◌, ◌≤◌, ◌<◌}
-use mathlib.Core.Path.{◌≡◌, refl, sym, ap, ◌∙◌}
-use mathlib.Core.Bool.{true, false}
-use mathlib.Core.List.{List}
-use mathlib.Core.Logic.{◌↔◌}
-use native.Mathlib.Numerals.{add-one}
-use native.Mathlib.Omega.{arith}
-use lib.Dec.{eqb}
-use lib.ListN.{length, take, drop, length-take, length-drop}
-use borrow.Author.Count.{below_more}
-use borrow.Author.Tests.{eqb-true, eq-eqb, le-leb}
-use Rattle.rules.specs.steps.Checks.{in_range}
+use Rattle.std.proofs.Common.{ℕ, zero, suc, ◌≡◌, ◌+◌, ◌-◌, ◌≤◌, ◌<◌, true, false, List, ◌↔◌, length, eqb, refl, sym, ap, ◌∙◌, arith, add-one, below_more}
+use Rattle.std.proofs.Common.{length-take, length-drop}
+use borrow.Author.Tests.{eqb-true, eq-eqb}
 use Rattle.rules.proofs.steps.Given.{range_tested}
-use Rattle.rules.proofs.steps.Tables.{and_iff, leb_iff, same_test}
+use Rattle.rules.proofs.steps.Tables.{and_iff, leb_iff}
 use Rattle.layout.proofs.Tested.{every_iff}
 use Rattle.limits.proofs.Ranges.{answers_no}
-use Rattle.schedule.specs.Bytes.{entry_at, offset_of, length_of, bytes_at, entry_body}
-use Rattle.schedule.specs.declared.Part.{Part}
-use Rattle.schedule.specs.Sound.{handlers_in, cells_in, table_start, entries_in, due_at, SoundTable, SoundFile, is_placed, is_sound_table, is_sound_file}
+use Rattle.schedule.specs.Bytes.{entry_at, offset_of, length_of, entry_body}
+use Rattle.schedule.specs.Sound.{due_at, SoundTable, SoundFile, is_placed, is_sound_table, is_sound_file}
 
 -- The test of equality answers the equality.
 eqb_iff : (a b : ℕ) → (eqb a b ≡ true) ↔ (a ≡ b)
@@ -55,14 +45,10 @@ file_tested file = (to, from)
 pub not_sound_file : {file : List ℕ} → (SoundFile file → ⊥) → false ≡ is_sound_file file
 not_sound_file out = answers_no _ (λ e. out ((file_tested _).0 e))
 
--- A sound file has its first two bytes.
-pub head_there : {file : List ℕ} → SoundFile file → 2 ≤ length file
-head_there sound = omega (arith, sound.table.whole)
-
 -- ── Bodies one after another ──────────────────────────────────────────
 
 -- After body k the next begins where it ends.
-pub due_next : (file : List ℕ) (start entries k : ℕ)
+due_next : (file : List ℕ) (start entries k : ℕ)
     → due_at file start entries (k + 1) ≡ offset_of file start k + length_of file start k
 unfolding due_at
 due_next file start entries k = rw add-one
@@ -125,16 +111,3 @@ module _ {file : List ℕ} {start entries count due : ℕ} (passed : Passed file
 -- No body is longer than the file.
 pub body_short : (file : List ℕ) (start k : ℕ) → length (entry_body file start k) ≤ length file
 body_short file start k = simp (length-take, length-drop) (omega arith)
-
--- What is lent from a part's offset on, of its length, is that part.
-pub part_lent : (file : List ℕ) (place : Part) {given : Part} → given ≡ place
-    → take ((given.offset + given.length) - given.offset) (drop given.offset file) ≡ bytes_at file place
-part_lent file place {given} is =
-    let count : (given.offset + given.length) - given.offset ≡ given.length = omega arith in
-    rw (count, is)
-
--- A file that is short enough, with n and m in range, is sound just when its table is.
-pub table_answer : (file : List ℕ) → length file ≤ 65535 → in_range (cells_in file) (handlers_in file) ≡ true
-    → is_sound_table file table_start (entries_in file) ≡ is_sound_file file
-unfolding is_sound_file
-table_answer file short ranged = rw (le-leb (length file) 65535 short, ranged)

@@ -1,5 +1,5 @@
 -- Scripts step by step: what stands in front decides whether the rest is read, and the reading goes on behind it.
-use Rattle.std.proofs.Common.{ℕ, zero, suc, ◌≡◌, ◌≤◌, ◌<◌, Bool, true, false, List, [], ◌∷◌, length, drop, eqb, leb, ltb, refl, sym, ap, ◌∙◌, arith}
+use Rattle.std.proofs.Common.{ℕ, zero, suc, ◌≡◌, ◌≤◌, ◌<◌, true, false, List, [], ◌∷◌, length, drop, eqb, leb, ltb, refl, sym, ap, ◌∙◌, arith}
 use Rattle.std.proofs.Math.Option.{Option, none, some, some-ne-none}
 use borrow.Author.Tests.{leb-false, ltb-true, lt-leb, ne_eqb}
 use Rattle.rules.specs.steps.Tables.{is_found}

@@ -67,6 +67,7 @@ pub struct Step {
 }
 
 // Admits a file with its sizes or refuses it, before its first step.
+#[tactic(auto, using(crate::proofs::Admits::admitted_unsound, crate::proofs::Admits::admitted_spoilt, crate::proofs::Admits::admitted_sound))]
 pub fn admit_file(file: &[u8]) -> Result<Sizes, Refusal>
     ensures { AdmissionPromise file.now (admission_is result) }
 {
@@ -78,6 +79,7 @@ pub fn admit_file(file: &[u8]) -> Result<Sizes, Refusal>
 }
 
 // The entry of a handler's script in the file, or why it is not found.
+#[tactic(auto, using(crate::proofs::Finds::script_unsound, crate::proofs::Finds::script_beyond, crate::proofs::Finds::script_there))]
 fn find_script(file: &[u8], handler: u32) -> Result<Part, Refusal>
     ensures { ScriptAt file.now handler result }
 {
@@ -97,6 +99,7 @@ pub fn script_answer(file: &[u8], handler: u32) -> Result<(), Refusal>
 }
 
 // Where a handler's script lies in the file; at 0 and 0 long where it is not found.
+#[tactic(auto, using(crate::proofs::Finds::part_given))]
 pub fn script_part(file: &[u8], handler: u32) -> Part
     ensures { PartPromise file.now handler result }
 {
@@ -107,6 +110,7 @@ pub fn script_part(file: &[u8], handler: u32) -> Part
 }
 
 // A handler's script, as the very part of the file; empty where it is not found.
+#[tactic(auto, using(crate::proofs::Finds::part_inside))]
 pub fn script(file: &[u8], handler: u32) -> &[u8]
     ensures { ScriptPromise file.now handler result.now }
 {
@@ -114,6 +118,7 @@ pub fn script(file: &[u8], handler: u32) -> &[u8]
 }
 
 // How many places the order has; none in a file that is not sound.
+#[tactic(auto, using(crate::proofs::Nexts::places_none, crate::proofs::Nexts::places_there))]
 pub fn order_places(file: &[u8]) -> usize
     ensures { PlacesPromise file.now result }
 {

@@ -1,8 +1,8 @@
 // A sound file: the test of the whole, and what a sound file has: its sizes, a script for each handler, and the order. Internal.
-ghost use Rattle.std.specs.Prelude.{◌≡◌, ◌+◌, ◌<◌, true, false, MatchOption, MatchResult};
+ghost use Rattle.std.specs.Prelude.{◌≡◌, ◌+◌, ◌<◌, MatchOption, MatchResult};
 ghost use Rattle.rules.specs.steps.Replies.{bad_file};
 ghost use Rattle.replies.specs.Meaning.{refusal_is};
-ghost use Rattle.schedule.specs.Sound.{table_start, handlers_in, cells_in, script_in, order_in, SoundFile, is_sound_file};
+ghost use Rattle.schedule.specs.Sound.{table_start, handlers_in, cells_in, script_in, order_in, SoundFile};
 ghost use Rattle.schedule.specs.Admitting.{all_whole};
 
 use crate::Sizes;

@@ -1,5 +1,5 @@
 // A table of contents, wherever it starts and however many entries it has, and what is read off it. Internal.
-ghost use Rattle.std.specs.Prelude.{◌≡◌, ◌+◌, ◌<◌, ◌≤◌, true, false, length, MatchOption};
+ghost use Rattle.std.specs.Prelude.{◌≡◌, ◌+◌, ◌<◌, ◌≤◌, length, MatchOption};
 ghost use Rattle.limits.specs.Limits.{most_file_bytes};
 ghost use Rattle.schedule.specs.Bytes.{short_at, long_at, entry_part, entry_body};
 ghost use Rattle.schedule.specs.Sound.{SoundTable};
@@ -80,5 +80,10 @@ pub fn long_at(bytes: &[u8], place: usize) -> u32
     requires { place + 3 < length bytes.now }
     ensures { result ≡ long_at bytes.now place }
 {
-    u32::from_be_bytes([bytes[place], bytes[place + 1], bytes[place + 2], bytes[place + 3]])
+    u32::from_be_bytes([
+        bytes[place],
+        bytes[place + 1],
+        bytes[place + 2],
+        bytes[place + 3],
+    ])
 }

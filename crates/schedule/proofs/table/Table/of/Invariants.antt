@@ -10,5 +10,5 @@ abbrev pub invariant-loop-entry : goal.invariant-loop-entry
 invariant-loop-entry l = record {
   size : chunks_exact_size l.entry-iterator ≡ 4;
   left : chunks_exact_rest l.entry-iterator ≡ entries_from l.file l.start l.entries (length l.yielded);
-  passed : Passed l.file l.start l.entries (length l.yielded) l.due
+  passed : Passed l.file l.start l.entries (length l.yielded) l.due;
 }
