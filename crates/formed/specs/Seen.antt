@@ -1,13 +1,9 @@
 -- For internal contracts alone: what our own functions are called with and leave. Nothing here need be believed.
--- Faults that are gathered: a number that is small enough to go on adding, and 0 exactly where all is well.
-use Rattle.std.specs.Prelude.{ℕ, ◌*◌, ◌^◌, ◌≤◌, ◌<◌, ◌≡◌, ◌↔◌, List, get_or}
-use Rattle.layout.specs.Places.{phase_in, read_set_in, written_set_in, handler_number_in, transaction_number_in}
+-- What is looked at of words: spans of two tables, the numbers of a table, and a block's front and numbers.
+use Rattle.std.specs.Prelude.{ℕ, ◌≤◌, ◌<◌, ◌↔◌, List, get_or, Option, MatchOption}
+use Rattle.limits.specs.Limits.{most_number}
+use Rattle.layout.specs.Places.{handler_part, phase_in, read_set_in, written_set_in, handler_number_in, transaction_number_in}
 use Rattle.layout.specs.WellFormed.{NoBitFrom}
-
--- At most so many faults, and none exactly where the statement holds.
-pub record Faults (most : ℕ) (Good : Type 0) (faults : ℕ) : Type 0 where
-  pub small : faults ≤ most
-  pub none : (faults ≡ 0) ↔ Good
 
 -- The words of two tables are numbers of at most 65,535, from a place to another.
 abbrev pub SpanFits : List ℕ → List ℕ → ℕ → ℕ → Type 0
@@ -25,6 +21,7 @@ NumbersFit m block = Fit m (handler_number_in block) × Fit m (transaction_numbe
 abbrev pub GoodFront : ℕ → ℕ → List ℕ → Type 0
 GoodFront last m block = (phase_in block ≤ last) × (NoBitFrom m (read_set_in block) × NoBitFrom m (written_set_in block))
 
--- The most faults there: three words'.
-abbrev pub front_most : ℕ
-front_most = 3 * 2 ^ 32
+-- Bits were made where all is well in front of the numbers of each block, and they are a number exactly where those numbers fit.
+abbrev pub BlocksSeen : ℕ → ℕ → ℕ → List ℕ → Option ℕ → Type 0
+BlocksSeen last m n body seen = let Fronts = (i : ℕ) → i < n → GoodFront last m (handler_part m body i) in
+    MatchOption seen (Fronts → ⊥) (λ bits. Fronts × ((bits ≤ most_number) ↔ ((i : ℕ) → i < n → NumbersFit m (handler_part m body i))))
