@@ -11,7 +11,7 @@ use Rattle.ledger.specs.Entries.{entry_in}
 use Rattle.ledger.specs.Histories.{deeds_of, commits_in}
 use Rattle.ledger.proofs.Commits.{up_to_first}
 use Rattle.past.specs.Marks.{past_of_version, marked, Adds}
-use Rattle.past.proofs.Marks.{adds_none, closed_none}
+use Rattle.past.proofs.Marking.{adds_none, closed_none}
 use Rattle.answers.proofs.torn_cell.Invariants.{is_outdated}
 use Rattle.answers.proofs.torn_cell.Goals as goal
 
