@@ -1,13 +1,13 @@
 -- Laws of pasts over the judge's words: a past has with each commit its past; it is the past of the handler's last commit, and with
 -- each cell that was read the past of the version read; and a version's past is that of the commit that wrote it.
-use Prim.Native.Nat.{ℕ, zero, suc, ◌-◌, ◌≤◌, ◌<◌}
+use Prim.Native.Nat.{ℕ, zero, suc, ◌-◌, ◌≤◌}
 use native.Mathlib.Omega.{arith}
 use native.Mathlib.Numerals.{sub-one}
 use mathlib.Core.Path.{◌≡◌, refl, sym, ap, ◌∙◌}
 use mathlib.Core.Bool.{Bool, true, false, ◌||◌}
 use mathlib.Core.List.{List, []}
 use lib.Dec.{leb}
-use borrow.Author.Tests.{leb-true, leb-false, le-leb, lt-leb}
+use borrow.Author.Tests.{leb-true, leb-false}
 use Rattle.rules.specs.steps.Figure.{version_shows}
 use Rattle.rules.specs.history.History.{Deed, Commit}
 use Rattle.rules.specs.history.Past.{InPast, before, UpTo, itself, behind, in_past, up_to, last_of}
@@ -24,24 +24,6 @@ through : {W : Type 0} {commits : List (Commit W)} {i k j : ℕ} {deeds : List (
     → InPast commits i deeds k → UpTo commits k j → InPast commits i deeds j
 through there (itself stands) = there
 through there (behind stands past) = before stands there past
-
--- A source word names one of the first so many commits,
-pub source_near : (source count : ℕ) → 0 < source → source - 1 ≤ count → source_place source count ≡ source - 1
-unfolding source_place
-source_near zero count h l = absurd (omega arith)
-source_near (suc place) count h l = rw (sub-one, le-leb place count (rw sub-one at l))
-
--- one beyond them,
-pub source_far : (source count : ℕ) → 0 < source → count < source - 1 → source_place source count ≡ 0
-unfolding source_place
-source_far zero count h l = absurd (omega arith)
-source_far (suc place) count h l = rw (lt-leb place count (rw sub-one at l))
-
--- or none.
-pub source_none : (source count : ℕ) → source ≤ 0 → source_place source count ≡ 0
-unfolding source_place
-source_none zero count h = refl
-source_none (suc place) count h = absurd (omega arith)
 
 -- The place that a source word names is none beyond the first so many.
 pub source_stood : (source count : ℕ) {place : ℕ} → place ≡ source_place source count → place ≤ count

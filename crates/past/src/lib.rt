@@ -49,16 +49,14 @@ fn last_own(history: History<'_>, handler: u32) -> usize
 }
 
 // The place of the commit, among the first so many, that a row's transaction read the cell c from; 0 if there is none.
-#[tactic(auto, using(crate::proofs::Pasts::source_near, crate::proofs::Pasts::source_far, crate::proofs::Pasts::source_none))]
+#[tactic(auto, unfolding(crate::specs::Marks::source_place))]
 fn source_of(row: Row<'_>, c: usize, count: usize) -> usize
     requires { c < most_cells }
     ensures { result ≡ source_place ((entry_in row.entry.words.now row.entry.index).sources c) count }
 {
-    let source = row.source(c);
-    if 0 < source && source - 1 <= count {
-        source - 1
-    } else {
-        0
+    match row.source(c) {
+        Some(place) if place <= count => place,
+        _ => 0,
     }
 }
 

@@ -1,6 +1,6 @@
 // A ledger as it is read: a row, which says what one transaction did, and the first so many commits. What each reading requires of the
 // words is said by these types.
-ghost use Rattle.std.specs.Prelude.{◌≡◌, ◌≤◌, ◌<◌, length};
+ghost use Rattle.std.specs.Prelude.{◌≡◌, ◌+◌, ◌≤◌, ◌<◌, length, MatchOption};
 ghost use Rattle.limits.specs.Limits.{most_cells, ledger_rows};
 ghost use Rattle.ledger.specs.Entries.{ledger_long, most_commits, commit_row, entry_in};
 
@@ -39,12 +39,14 @@ impl<'a> Row<'a> {
         words::has(self.words[places::written_at(self.index)], c)
     }
 
-    // What the row notes of the source that its transaction read the cell c from: 0 where there is none, and else 1 more than its place.
-    pub fn source(self, c: usize) -> usize
+    // The place of the commit whose version of the cell c the row's transaction read, 0 for the opening's; none where it read none.
+    pub fn source(self, c: usize) -> Option<usize>
         requires { c < most_cells }
-        ensures { result ≡ (entry_in self.entry.words.now self.entry.index).sources c }
+        ensures { let noted = (entry_in self.entry.words.now self.entry.index).sources c in
+            MatchOption result (noted ≡ 0) (λ place. noted ≡ place + 1) }
     {
-        self.words[places::source_at(self.index, c)] as usize
+        // It is noted as 1 more than its place.
+        (self.words[places::source_at(self.index, c)] as usize).checked_sub(1)
     }
 
     // The row's copy of the cell c.
