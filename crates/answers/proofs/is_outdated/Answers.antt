@@ -1,15 +1,13 @@
--- `answers::is_outdated` meets its contract: where a source is noted, it is asked for a later version.
-use mathlib.Core.Path.{sym, ◌∙◌}
+-- `answers::is_outdated` meets its contract: the source is asked for a later version.
+use Rattle.std.proofs.Common.{◌∙◌}
 use Rattle.rules.specs.history.Past.{outdated}
-use Rattle.ledger.proofs.Deeds.{look_none, look_noted}
+use Rattle.answers.proofs.Rows.{asked, not_asked}
 use Rattle.answers.proofs.is_outdated.Goals as goal
 
-pub returns-then-noted-eq0 : goal.returns-then-noted-eq0
+pub returns-in-Some : goal.returns-in-Some
 unfolding outdated
-returns-then-noted-eq0 c m inside = sym (look_none _ _ m _ inside c.source_noted-noted.ensures c.if-noted-eq0.true)
+returns-in-Some c m inside = c.has_later.ensures m inside ∙ asked _ _ m inside _ c.in-Some.ensures
 
-pub returns : goal.returns
+pub returns-in-None : goal.returns-in-None
 unfolding outdated
-returns c m inside =
-    c.has_later.ensures m inside
-    ∙ sym (look_noted _ _ m _ inside c.source_noted-noted.ensures c.if-noted-eq0.false)
+returns-in-None c m inside = not_asked _ _ m inside _ c.in-None.ensures

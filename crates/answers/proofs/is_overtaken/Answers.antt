@@ -1,15 +1,12 @@
--- `answers::is_overtaken` meets its contract: where a source is noted, it is compared with the writer.
-use mathlib.Core.Path.{sym}
+-- `answers::is_overtaken` meets its contract: the source is compared with the writer.
 use Rattle.rules.specs.demand.Judge.{stale}
-use Rattle.ledger.proofs.Deeds.{look_none, look_noted}
+use Rattle.answers.proofs.Rows.{asked, not_asked}
 use Rattle.answers.proofs.is_overtaken.Goals as goal
 
-pub returns-then-noted-eq0 : goal.returns-then-noted-eq0
+pub returns-in-Some : goal.returns-in-Some
 unfolding stale
-returns-then-noted-eq0 c m inside = sym (look_none _ _ m _ inside c.source_noted-noted.ensures c.if-noted-eq0.true)
+returns-in-Some c m inside = rw (c.writer_of.ensures.writer m inside) (asked _ _ m inside _ c.in-Some.ensures)
 
-pub returns : goal.returns
+pub returns-in-None : goal.returns-in-None
 unfolding stale
-returns c m inside =
-    rw (c.writer_of.ensures.writer m inside)
-    (sym (look_noted _ _ m _ inside c.source_noted-noted.ensures c.if-noted-eq0.false))
+returns-in-None c m inside = not_asked _ _ m inside _ c.in-None.ensures
