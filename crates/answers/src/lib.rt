@@ -108,6 +108,7 @@ fn has_later(history: History<'_>, y: usize, source: usize, marks: Marks) -> boo
 }
 
 // Whether a row's transaction read the cell y, and a marked commit wrote a later version of it than the one read.
+#[tactic(auto, using(crate::proofs::Rows::outdated_source, crate::proofs::Rows::outdated_none))]
 fn is_outdated(history: History<'_>, row: Row<'_>, y: usize, marks: Marks) -> bool
     requires { y < most_cells }
     ensures { (m : ℕ) → y < m → let commits = commits_in m history.entry.words.now history.entry.count in
@@ -133,6 +134,7 @@ pub fn torn_cell(history: History<'_>, m: usize, row: Row<'_>, place: usize) -> 
 }
 
 // Whether a row's transaction read the cell y in another version than the present one.
+#[tactic(auto, using(crate::proofs::Rows::stale_source, crate::proofs::Rows::stale_none))]
 fn is_overtaken(history: History<'_>, row: Row<'_>, y: usize) -> bool
     requires { y < most_cells }
     ensures { (m : ℕ) → y < m → let commits = commits_in m history.entry.words.now history.entry.count in
