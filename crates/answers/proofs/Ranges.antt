@@ -1,5 +1,6 @@
 -- Searches over a range of numbers, in the rules' words: whether some number passes a test, and the lowest one that does.
-use Rattle.std.proofs.Common.{◌≡◌, ℕ, ◌+◌, ◌≤◌, ◌<◌, Bool, true, false, MatchBool, Option, None, Some, MatchOption, List, length, get_or, refl, sym, ap, ◌∙◌, arith}
+use Rattle.std.proofs.Common.{◌≡◌, ℕ, ◌+◌, ◌≤◌, ◌<◌, Bool, true, false, MatchBool, Option, None, Some, MatchOption, List, length, get_or, refl, sym, ap}
+use Rattle.std.proofs.Common.{◌∙◌, arith}
 use Rattle.std.specs.Borrow.{Bor}
 use Rattle.std.specs.Fn.{Called, CalledAt}
 use Rattle.std.specs.Iterator.{ChecksAny, FindsItem}

@@ -1,9 +1,5 @@
 -- Pasts added to marks, one asked after another: a transaction's cell by cell, and a version's with the commit that wrote it.
-use Prim.Native.Nat.{ℕ, ◌+◌, ◌-◌, ◌≤◌}
-use native.Mathlib.Numerals.{add-one}
-use mathlib.Core.Path.{◌≡◌, sym, ◌∙◌}
-use mathlib.Core.Bool.{true}
-use mathlib.Core.List.{List}
+use Rattle.std.proofs.Common.{ℕ, ◌+◌, ◌-◌, ◌≤◌, add-one, ◌≡◌, sym, ◌∙◌, true, List}
 use Rattle.rules.specs.history.Past.{up_to, last_of}
 use Rattle.rules.proofs.steps.Tables.{both_ways}
 use Rattle.ledger.specs.Entries.{Entry, entry_in, commit_row}

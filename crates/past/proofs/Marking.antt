@@ -1,16 +1,12 @@
 -- Laws of marks: what no mark and one mark more say, how sets of commits are added one after another, and which sets have with each
 -- commit its past.
-use Rattle.std.specs.Prelude.{bit_or}
-use Rattle.std.proofs.Common.{◌*◌, ◌%◌, ◌^◌, w64}
+use Rattle.std.proofs.Common.{bit_or, ◌*◌, ◌%◌, ◌^◌, w64, ℕ, zero, suc, ◌-◌, ◌≤◌, ◌<◌, arith, sub-one, ◌≡◌, refl, sym, ap, ◌∙◌, Bool, true, false, ◌||◌}
+use Rattle.std.proofs.Common.{List, eqb, eqb-true}
 use Rattle.std.proofs.lemmas.Nat.Bits.{bit_at_set_same, bit_at_set_other}
-use Prim.Native.Nat.{ℕ, zero, suc, ◌-◌, ◌≤◌, ◌<◌}
-use native.Mathlib.Omega.{arith}
-use native.Mathlib.Numerals.{sub-one}
-use mathlib.Core.Path.{◌≡◌, refl, sym, ap, ◌∙◌, fun_ext}
-use mathlib.Core.Bool.{Bool, true, false, ◌||◌, or-true, or-false, or_assoc, or_comm}
-use mathlib.Core.List.{List}
-use lib.Dec.{eqb, eqb-zero-suc, eqb-suc-suc}
-use borrow.Author.Tests.{eqb-true, eqb-false}
+use mathlib.Core.Path.{fun_ext}
+use mathlib.Core.Bool.{or-true, or-false, or_assoc, or_comm}
+use lib.Dec.{eqb-zero-suc, eqb-suc-suc}
+use borrow.Author.Tests.{eqb-false}
 use Rattle.rules.proofs.steps.Tables.{by, both_ways, either, or_absorb}
 use Rattle.layout.specs.Bits.{has_bit}
 use Rattle.layout.proofs.Bits.{no_bit_from}
