@@ -1,16 +1,15 @@
 -- Laws of marks: what no mark and one mark more say, how sets of commits are added one after another, and which sets have with each
 -- commit its past.
-use Prim.Native.Nat.{ℕ, zero, suc, ◌-◌, ◌≤◌}
-use native.Mathlib.Omega.{arith}
-use native.Mathlib.Numerals.{sub-one}
-use mathlib.Core.Path.{◌≡◌, refl, sym, ap, ◌∙◌, fun_ext}
-use mathlib.Core.Bool.{Bool, true, false, ◌||◌, or-true, or-false, or_assoc, or_comm}
-use mathlib.Core.List.{List}
-use lib.Dec.{eqb, eqb-zero-suc, eqb-suc-suc}
-use Rattle.rules.specs.steps.Tables.{put}
+use Rattle.std.proofs.Common.{bit_or, ◌*◌, ◌%◌, ◌^◌, w64, ℕ, zero, suc, ◌-◌, ◌≤◌, ◌<◌, arith, sub-one, ◌≡◌, refl, sym, ap, ◌∙◌, Bool, true, false, ◌||◌}
+use Rattle.std.proofs.Common.{List, eqb, eqb-true}
+use Rattle.std.proofs.lemmas.Nat.Bits.{bit_at_set_same, bit_at_set_other}
+use mathlib.Core.Path.{fun_ext}
+use mathlib.Core.Bool.{or-true, or-false, or_assoc, or_comm}
+use lib.Dec.{eqb-zero-suc, eqb-suc-suc}
+use borrow.Author.Tests.{eqb-false}
 use Rattle.rules.proofs.steps.Tables.{by, both_ways, either, or_absorb}
-use Rattle.layout.specs.Bits.{has_bit, with_bit}
-use Rattle.layout.proofs.Bits.{has_with, no_bit_from}
+use Rattle.layout.specs.Bits.{has_bit}
+use Rattle.layout.proofs.Bits.{no_bit_from}
 use Rattle.past.specs.Marks.{marked, only, Adds, Closed}
 
 -- ── Marks ─────────────────────────────────────────────────────────────
@@ -47,20 +46,27 @@ adds_both {first = first} {second = second} {marks = marks} both same one other 
       (or_assoc (marked marks j) (first j) (second j) ∙ ap (λ b. marked marks j || b) (or_comm (first j) (second j)));
 }
 
--- A set with one place put in has its own and that one.
-put_joins : (set : ℕ → Bool) (k i : ℕ) → put set k true i ≡ set i || eqb i k
-unfolding put
-put_joins set k i = by (eqb i k) (λ e. rw e (sym (or-true (set i)))) (λ e. rw e (sym (or-false (set i))))
+-- A word with one bit set has that one,
+set_same : (marks k : ℕ) → k < 64 → has_bit (bit_or marks (1 * 2 ^ k % 2 ^ 64)) k ≡ true
+unfolding has_bit
+set_same marks k h = ap (λ (n : ℕ). eqb n 1) (bit_at_set_same w64 marks k h)
+
+-- and the others as they were.
+set_other : (marks k i : ℕ) → k < 64 → (i ≡ k → ⊥) → has_bit (bit_or marks (1 * 2 ^ k % 2 ^ 64)) i ≡ has_bit marks i
+unfolding has_bit
+set_other marks k i h apart = ap (λ (n : ℕ). eqb n 1) (bit_at_set_other w64 marks k h i apart)
 
 -- One commit is added by one bit.
-pub adds_one : (marks place : ℕ) → 1 ≤ place → Adds (only place) marks (with_bit marks (place - 1))
+pub adds_one : (marks place : ℕ) → 1 ≤ place → place ≤ 64 → Adds (only place) marks (bit_or marks (1 * 2 ^ (place - 1) % 2 ^ 64))
 unfolding marked
-adds_one marks zero h = absurd (omega arith)
-adds_one marks (suc k) h = record { each = each }
+adds_one marks zero low high = absurd (omega arith)
+adds_one marks (suc k) low high = rw sub-one (record { each = each })
   where
-    each : (j : ℕ) → marked (with_bit marks (suc k - 1)) j ≡ marked marks j || eqb j (suc k)
+    each : (j : ℕ) → marked (bit_or marks (1 * 2 ^ k % 2 ^ 64)) j ≡ marked marks j || eqb j (suc k)
     each zero = sym (eqb-zero-suc k)
-    each (suc i) = rw (sub-one, has_with marks k i, eqb-suc-suc) (put_joins (has_bit marks) k i)
+    each (suc i) = rw eqb-suc-suc (by (eqb i k)
+        (λ e. rw (e, eqb-true i k e, set_same marks k (omega arith)) (sym (or-true (has_bit marks k))))
+        (λ e. rw (e, set_other marks k i (omega arith) (eqb-false i k e)) (sym (or-false (has_bit marks i)))))
 
 -- ── Sets that have with each commit its past ──────────────────────────
 
