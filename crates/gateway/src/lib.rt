@@ -4,8 +4,10 @@
 
 ghost use Rattle.std.specs.Prelude.{◌≡◌, ◌+◌, ◌*◌, ◌^◌, ◌≤◌};
 ghost use Rattle.prints.specs.Printed.{RunPromise, JudgedRunPromise};
-ghost use Rattle.replies.specs.Meaning.{reply_is};
-ghost use Rattle.gateway.specs.Packed.{reply_number, LengthNumber, OpeningNumber, StepNumber, SheetNumber, RowNumber};
+ghost use Rattle.replies.specs.Meaning.{reply_is, opening_is};
+ghost use Rattle.rows.specs.Meaning.{rowed_is};
+ghost use Rattle.sheets.specs.Meaning.{added_is};
+ghost use Rattle.gateway.specs.Packed.{reply_number, opening_number, refused_number, LengthNumber, OpeningNumber, StepNumber, SheetNumber, RowNumber};
 
 use replies::{Refusal, Report};
 
@@ -19,7 +21,9 @@ pub extern "C" fn zidlemowo_length(m: u32, n: u32) -> u32
 
 // What a call came to as a number: 0, or the refusal's.
 fn number_of(done: Result<(), Refusal>) -> u32
-    ensures { NumberOf done result }
+    ensures opening { result ≡ opening_number (opening_is done) }
+    ensures row { result ≡ refused_number (rowed_is done) }
+    ensures sheet { result ≡ refused_number (added_is done) }
 {
     done.map_or_else(replies::refusal_number, |()| 0)
 }
