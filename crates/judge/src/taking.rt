@@ -64,6 +64,7 @@ fn attempt(words: &mut [u32], m: usize, i: usize) -> Outcome
 }
 
 // Takes the step, and notes what it comes to.
+#[tactic(auto, using(crate::proofs::Passing::takes_begin, crate::proofs::Passing::takes_give_up, crate::proofs::Passing::takes_write))]
 fn take(words: &mut [u32], m: usize, i: usize, step: Step, value: u32) -> Outcome
     requires { Able words.old m i (step_is step) }
     ensures { TakesNoted words.old i (step_is step) value (outcome_is result) words.new }
@@ -87,6 +88,7 @@ fn take(words: &mut [u32], m: usize, i: usize, step: Step, value: u32) -> Outcom
 }
 
 // Takes a step that no check refuses, unless it would be a 65th commit.
+#[tactic(auto, using(crate::proofs::Passing::has_room, crate::proofs::Passing::pass_stops, crate::proofs::Passing::pass_takes))]
 pub fn pass(
     words: &mut [u32],
     handler: u32,
