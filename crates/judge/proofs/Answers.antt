@@ -1,12 +1,8 @@
 -- The answer to a read and to a try, by what is asked of the handler's row and of the commits; and what is then to be noted.
-use Prim.Native.Nat.{ℕ, ◌<◌}
-use native.Mathlib.Omega.{arith}
+use Rattle.std.proofs.Common.{ℕ, ◌<◌, arith, ◌≡◌, refl, sym, ap, ap₂, ◌∙◌, Bool, true, false, ◌||◌, List, [], ◌∷◌}
 use Rattle.std.specs.Option.{unwrap_or}
 use Rattle.std.specs.Prelude as Given
 use Rattle.replies.specs.Meaning.{content_is}
-use mathlib.Core.Path.{◌≡◌, refl, sym, ap, ap₂, ◌∙◌}
-use mathlib.Core.Bool.{Bool, true, false, ◌||◌}
-use mathlib.Core.List.{List, [], ◌∷◌}
 use mathlib.Core.Option.{Option, none, some}
 use Rattle.rules.specs.steps.Tables.{lowest}
 use Rattle.rules.specs.steps.Codes.{Step, try, read}

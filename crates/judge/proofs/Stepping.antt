@@ -1,9 +1,5 @@
 -- The judge's step by its ways: no ledger, refused by a check, or passed.
-use Rattle.std.proofs.Common.{Result}
-use Prim.Native.Nat.{ℕ}
-use mathlib.Core.Path.{◌≡◌, refl, sym, ap, ap₂, ◌∙◌}
-use mathlib.Core.Bool.{Bool, true, false}
-use mathlib.Core.List.{List}
+use Rattle.std.proofs.Common.{Result, ℕ, ◌≡◌, refl, sym, ap, ap₂, ◌∙◌, Bool, true, false, List}
 use mathlib.Core.Option.{Option, none, some}
 use Rattle.rules.specs.steps.Codes.{Step, Kind, known, plain_sheet}
 use Rattle.rules.specs.steps.Replies.{Refusal, not_well_formed, Reply}

@@ -1,18 +1,14 @@
 -- What the judge reads off its words before a step.
-use Prim.Native.Nat.{ℕ, ◌≤◌, ◌<◌}
-use mathlib.Core.Path.{◌≡◌, refl, sym, ap, ◌∙◌}
-use mathlib.Core.Bool.{Bool, true, false, not, ◌&&◌, ◌||◌, and-false}
-use mathlib.Core.List.{List, [], ◌∷◌}
-use Rattle.std.proofs.Common.{Option, None, Some}
+use Rattle.std.proofs.Common.{ℕ, ◌≤◌, ◌<◌, ◌≡◌, refl, sym, ap, ◌∙◌, Bool, true, false, not, ◌&&◌, ◌||◌, List, [], ◌∷◌, Option, None, Some, length, eqb}
+use Rattle.std.proofs.Common.{leb, le-leb}
+use mathlib.Core.Bool.{and-false}
 use Rattle.std.specs.Bool.{OnTrue}
 use Rattle.std.specs.Option.{is_some}
 use Rattle.checks.specs.declared.Step as Checks
 use Rattle.checks.specs.declared.Step.TheVariants as Variants
 use Rattle.checks.specs.Meaning.{step_is}
 use Rattle.words.specs.Sets.{found_is}
-use lib.ListN.{length}
-use lib.Dec.{eqb, leb}
-use borrow.Author.Tests.{lt-leb, le-leb}
+use borrow.Author.Tests.{lt-leb}
 use Rattle.rules.specs.steps.Codes.{Step, begin, try, give_up, read, write}
 use Rattle.rules.specs.steps.Replies.{overtaken, committed}
 use Rattle.rules.specs.steps.Checks.{◌naming◌, in_range, first_hit}

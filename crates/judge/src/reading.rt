@@ -31,11 +31,8 @@ pub fn is_open(words: &[u32], handler: u32) -> bool
         return false;
     }
     let i = handler as usize;
-    let row = Row {
-        words,
-        index: places::handler_row(i),
-    };
-    row.head() != 0
+    let index = places::handler_row(i);
+    Row { words, index }.head() != 0
 }
 
 // Whether a step that no check refuses would be one commit more than are noted.
