@@ -60,6 +60,7 @@ pub fn step(words: &mut [u32], handler: u32, code: u32, value: u32) -> Result<Re
 }
 
 // What a cell holds, and how many commits wrote it.
+#[tactic(auto, using(crate::proofs::Ends::no_end, crate::proofs::Ends::end_beyond, crate::proofs::Ends::end_shown))]
 pub fn cell_end(words: &[u32], c: u32) -> Option<CellEnd>
     ensures { JudgedEndPromise words.now c (end_is result) }
 {

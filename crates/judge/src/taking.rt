@@ -17,18 +17,12 @@ fn read(words: &mut [u32], m: usize, i: usize, x: usize) -> Outcome
     ensures { (v : ℕ) → TakesNoted words.old i (read x) v (outcome_is result) words.new }
 {
     let index = places::handler_row(i);
-    let row = Row {
-        words: &*words,
-        index,
-    };
+    let row = Row { words, index };
     if answers::has_copy(row, x) {
         return Outcome::Shows(answers::copy_content(row, x));
     }
     let count = words[places::COMMITS_NOTED] as usize;
-    let history = History {
-        words: &*words,
-        count,
-    };
+    let history = History { words, count };
     let place = answers::writer_of(history, x);
     if let Some(y) = answers::torn_cell(history, m, row, place) {
         noting::empty_row(words, index, 0);
@@ -46,15 +40,9 @@ fn attempt(words: &mut [u32], m: usize, i: usize) -> Outcome
     ensures { (v : ℕ) → TakesNoted words.old i try v (outcome_is result) words.new }
 {
     let index = places::handler_row(i);
-    let row = Row {
-        words: &*words,
-        index,
-    };
+    let row = Row { words, index };
     let count = words[places::COMMITS_NOTED] as usize;
-    let history = History {
-        words: &*words,
-        count,
-    };
+    let history = History { words, count };
     if let Some(z) = answers::overtaken_cell(history, m, row) {
         noting::empty_row(words, index, 0);
         return Outcome::Aborted(Reason::Overtaken(z));
@@ -87,6 +75,7 @@ fn take(words: &mut [u32], m: usize, i: usize, step: Step, value: u32) -> Outcom
 }
 
 // Takes a step that no check refuses, unless it would be a 65th commit.
+#[tactic(auto, using(crate::proofs::Passing::has_room))]
 pub fn pass(
     words: &mut [u32],
     handler: u32,
