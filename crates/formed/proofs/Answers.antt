@@ -4,14 +4,15 @@ use Rattle.rules.specs.steps.Checks.{in_range}
 use Rattle.rules.proofs.steps.Tables.{same_test}
 use Rattle.limits.proofs.Ranges.{answers_no}
 use Rattle.layout.specs.Places.{cells_of, handlers_of, body_of, body_long, cell_part, handler_part, number_in}
-use Rattle.layout.specs.WellFormed.{WellFormed, GoodBody, PhasesTo, is_good_body, is_well_formed}
-use Rattle.layout.proofs.Tested.{body_iff, tested}
-use Rattle.formed.specs.Seen.{Fit, NumbersFit, GoodFront}
+use Rattle.layout.specs.WellFormed.{is_good_body, is_well_formed}
+use Rattle.layout.proofs.Tested.{body_iff}
+use Rattle.formed.specs.Seen.{Fit, NumbersFit, GoodFronts}
 use Rattle.formed.proofs.Bits.{EachBelow}
 
--- Words that are not well formed are answered with no.
-pub not_formed : (words : List ℕ) → (WellFormed words → ⊥) → false ≡ is_well_formed words
-not_formed words out = answers_no (is_well_formed words) (λ e. out ((tested words).0 e))
+-- Where m and n are out of range, words are answered with no.
+pub out_of_range_formed : (words : List ℕ) → in_range (cells_of words) (handlers_of words) ≡ false → false ≡ is_well_formed words
+unfolding is_well_formed
+out_of_range_formed words out = rw out
 
 -- Where m and n are in range, whether words are well formed is whether their body is good.
 pub in_range_formed : (words : List ℕ) → in_range (cells_of words) (handlers_of words) ≡ true
@@ -24,21 +25,17 @@ module _ (last m n : ℕ) (body : List ℕ) where
   pub too_short : length body < body_long m n → false ≡ is_good_body last m n body
   too_short short = answers_no (is_good_body last m n body) (λ e. omega (arith, ((body_iff last m n body).0 e).0.long))
 
-  -- The front of each block is good.
-  abbrev pub GoodFronts : Type 0
-  GoodFronts = EachBelow n (λ i. GoodFront last m (handler_part m body i))
-
-  -- Of a good body they are.
-  fronts_good : is_good_body last m n body ≡ true → GoodFronts
+  -- In a good body the front of each block is good.
+  fronts_good : is_good_body last m n body ≡ true → GoodFronts last m n body
   fronts_good e i h = let (good, phases) = (body_iff last m n body).0 e in
       let block = good.blocks i h in (phases i h, (block.read_set, block.written_set))
 
   -- A body with a front that is not good is answered with no.
-  pub bad_front : (GoodFronts → ⊥) → false ≡ is_good_body last m n body
+  pub bad_front : (GoodFronts last m n body → ⊥) → false ≡ is_good_body last m n body
   bad_front bad = answers_no (is_good_body last m n body) (λ e. bad (fronts_good e))
 
   -- Where the words are enough and the fronts good, a body is good just when the bits that tell of all numbers are a number.
-  pub numbers_seen : body_long m n ≤ length body → GoodFronts → {bits over : ℕ}
+  pub numbers_seen : body_long m n ≤ length body → GoodFronts last m n body → {bits over : ℕ}
       → (bits ≤ 65535) ↔ EachBelow n (λ i. NumbersFit m (handler_part m body i))
       → (over ≤ 65535) ↔ ((bits ≤ 65535) × EachBelow m (λ c. Fit m (number_in (cell_part m body c)))) → leb over 65535 ≡ is_good_body last m n body
   numbers_seen long fronts {bits} {over} blocks cells = same_test (leb over 65535) (is_good_body last m n body) to from

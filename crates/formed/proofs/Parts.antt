@@ -1,9 +1,9 @@
 -- What is looked at of the words: spans of two tables are tables of numbers, the cells' by halves; and a block is its front and numbers.
-use Rattle.std.proofs.Common.{ℕ, ◌+◌, ◌*◌, ◌-◌, ◌/◌, ◌^◌, ◌≤◌, ◌<◌, ◌≡◌, ◌↔◌, true, false, ltb, eqb, IsTrue, bit_or, List, length, length-drop, get_or, get_or-drop}
-use Rattle.std.proofs.Common.{◌++◌, take, drop, drop_at, drop-drop, get_or-take, suc-mul, length-append, length-take, lt_of_mul-lt-mul_right, refl, sym, ap, subst, ◌∙◌, arith, ltb-true, ltb-false, eqb-true, eq-eqb}
+use Rattle.std.proofs.Common.{ℕ, ◌+◌, ◌*◌, ◌-◌, ◌/◌, ◌^◌, ◌≤◌, ◌<◌, ◌≡◌, ◌↔◌, inl, inr, eqb, IsTrue, bit_or, List, length, length-drop, get_or, get_or-drop}
+use Rattle.std.proofs.Common.{◌++◌, take, drop, drop_at, drop-drop, get_or-take, length-append, length-take, lt_of_mul-lt-mul_right, refl, sym, ap, ◌∙◌, arith, eqb-true, eq-eqb}
 use Rattle.std.proofs.Math.Logic.Iff
+use Rattle.std.proofs.lemmas.Bool.{cases_lt}
 use Rattle.std.proofs.lemmas.List.{get_or_append_left}
-use Rattle.rules.proofs.steps.Tables.{by}
 use Rattle.layout.specs.Rows.{part}
 use Rattle.layout.specs.Places.{cell_long, handler_long, body_long, cell_start, handler_start, cell_part, handler_part, number_in, handler_number_in, transaction_number_in}
 use Rattle.layout.specs.Places.{phase_in, read_set_in, written_set_in}
@@ -27,22 +27,19 @@ span_tables : (first second : List ℕ) {from to : ℕ} (long : ℕ) → to ≡ 
 span_tables first second {from} {to} long ends {numbers} {numbers'} holds holds' = (there, back)
   where
     there : SpanFits first second from to → Fit long numbers × Fit long numbers'
-    there fit = (λ y h. omega (arith, holds y h, (at y h).0), λ y h. omega (arith, holds' y h, (at y h).1))
-      where
-        at : (y : ℕ) → y < long → (get_or first (from + y) 0 ≤ 65535) × (get_or second (from + y) 0 ≤ 65535)
-        at y h = fit (from + y) (omega arith) (omega arith)
+    there fit = (
+      λ y h. omega (arith, holds y h, (fit (from + y) (omega arith) (omega arith)).0),
+      λ y h. omega (arith, holds' y h, (fit (from + y) (omega arith) (omega arith)).1),
+    )
 
     back : Fit long numbers × Fit long numbers' → SpanFits first second from to
-    back (fit, fit') y h l = subst (λ (place : ℕ). (get_or first place 0 ≤ 65535) × (get_or second place 0 ≤ 65535)) same at
+    back (fit, fit') y h l = rw (← place) (rw (holds _ inside) (fit _ inside), rw (holds' _ inside) (fit' _ inside))
       where
-        below : y - from < long
-        below = omega arith
+        place : from + (y - from) ≡ y
+        place = omega arith
 
-        same : from + (y - from) ≡ y
-        same = omega arith
-
-        at : (get_or first (from + (y - from)) 0 ≤ 65535) × (get_or second (from + (y - from)) 0 ≤ 65535)
-        at = (omega (arith, holds (y - from) below, fit (y - from) below), omega (arith, holds' (y - from) below, fit' (y - from) below))
+        inside : y - from < long
+        inside = omega arith
 
 -- All words from a place on, as they are lent.
 abbrev pub behind : ℕ → List ℕ → List ℕ
@@ -78,12 +75,10 @@ halves : (m : ℕ) (Good : ℕ → Type 0) → EachBelow ((m + 1) / 2) (λ c. Go
 halves m Good = (to, λ good c h. (good c (omega arith), good (m / 2 + c) (omega arith)))
   where
     to : EachBelow ((m + 1) / 2) (λ c. Good c × Good (m / 2 + c)) → EachBelow m Good
-    to good c h = by (ltb c ((m + 1) / 2)) (λ e. (good c (ltb-true c ((m + 1) / 2) e)).0) second
-      where
-        second : ltb c ((m + 1) / 2) ≡ false → Good c
-        second e =
-            let beyond = ltb-false c ((m + 1) / 2) e in
-            subst Good (let same : m / 2 + (c - m / 2) ≡ c = omega (arith, beyond) in same) (good (c - m / 2) (omega (arith, beyond))).1
+    to good c h = elim (cases_lt c ((m + 1) / 2)) [
+      | inl front ↦ (good c front).0
+      | inr behind ↦ let place : m / 2 + (c - m / 2) ≡ c = omega arith in rw (← place) (good (c - m / 2) (omega arith)).1
+    ]
 
 -- Bits that tell of half of the cells and of those beside them tell of all cells.
 pub cells_told : (m : ℕ) (body : List ℕ) {bits over : ℕ} → Told bits (PairFits m body) ((m + 1) / 2) over
@@ -128,12 +123,13 @@ block_next m n body i {block} {rest} fits size cut = (below, part_is (handler_st
 -- Where fewer words than a block's are left, all blocks are passed.
 pub blocks_end : (m n : ℕ) (body : List ℕ) (i : ℕ) {left : List ℕ} → body_long m n ≤ length body → left ≡ blocks_left m n body i
     → length left < handler_long m → n ≤ i
-blocks_end m n body i {left} fits cut few = by (ltb i n) (λ e. absurd (more e)) (λ e. ltb-false i n e)
+blocks_end m n body i {left} fits cut few = elim (cases_lt i n) [ inl more ↦ absurd (out more) | inr all ↦ all ]
   where
-    more : ltb i n ≡ true → ⊥
-    more e =
-        let size : length left ≡ n * handler_long m - i * handler_long m = ap length cut ∙ simp (length-drop, length-take) (omega arith) in
-        omega (arith, size, few, rows_apart (handler_long m) i n (ltb-true i n e))
+    size : length left ≡ n * handler_long m - i * handler_long m
+    size = ap length cut ∙ simp (length-drop, length-take) (omega arith)
+
+    out : i < n → ⊥
+    out more = omega (arith, size, few, rows_apart (handler_long m) i n more)
 
 -- Behind its front a block's span holds the handler's numbers, and m words further on those of its transaction.
 pub block_span : (m : ℕ) (block : List ℕ) {ahead to : ℕ} → ahead ≡ m → to ≡ 3 + m → SpanFits block (behind ahead block) 3 to ↔ NumbersFit m block
@@ -144,13 +140,7 @@ block_span m block {ahead} there onward = span_tables block (behind ahead block)
 -- A front is good just when its phase is and nothing of its two sets, laid over each other, is left from bit m on.
 pub front_good : (last m : ℕ) (block : List ℕ) → phase_in block ≤ last
     → IsTrue (eqb (bit_or (read_set_in block) (written_set_in block) / 2 ^ m) 0) ↔ GoodFront last m block
-front_good last m block low = (to, from)
+front_good last m block low = (λ e. (low, sets.0 (eqb-true _ 0 e)), λ good. eq-eqb _ 0 (sets.1 good.1))
   where
     sets : (bit_or (read_set_in block) (written_set_in block) / 2 ^ m ≡ 0) ↔ (NoBitFrom m (read_set_in block) × NoBitFrom m (written_set_in block))
     sets = over_sets m (read_set_in block) (written_set_in block)
-
-    to : IsTrue (eqb (bit_or (read_set_in block) (written_set_in block) / 2 ^ m) 0) → GoodFront last m block
-    to e = (low, sets.0 (eqb-true _ 0 e))
-
-    from : GoodFront last m block → IsTrue (eqb (bit_or (read_set_in block) (written_set_in block) / 2 ^ m) 0)
-    from (_, none) = eq-eqb _ 0 (sets.1 none)

@@ -21,7 +21,11 @@ NumbersFit m block = Fit m (handler_number_in block) × Fit m (transaction_numbe
 abbrev pub GoodFront : ℕ → ℕ → List ℕ → Type 0
 GoodFront last m block = (phase_in block ≤ last) × (NoBitFrom m (read_set_in block) × NoBitFrom m (written_set_in block))
 
--- Bits were made where all is well in front of the numbers of each block, and they are a number exactly where those numbers fit.
+-- So it is in each of n blocks.
+abbrev pub GoodFronts : ℕ → ℕ → ℕ → List ℕ → Type 0
+GoodFronts last m n body = (i : ℕ) → i < n → GoodFront last m (handler_part m body i)
+
+-- Bits were gathered where the front of each block is good, and they are a number exactly where the numbers of all blocks fit.
 abbrev pub BlocksSeen : ℕ → ℕ → ℕ → List ℕ → Option ℕ → Type 0
-BlocksSeen last m n body seen = let Fronts = (i : ℕ) → i < n → GoodFront last m (handler_part m body i) in
-    MatchOption seen (Fronts → ⊥) (λ bits. Fronts × ((bits ≤ most_number) ↔ ((i : ℕ) → i < n → NumbersFit m (handler_part m body i))))
+BlocksSeen last m n body seen = MatchOption seen (GoodFronts last m n body → ⊥)
+    (λ bits. GoodFronts last m n body × ((bits ≤ most_number) ↔ ((i : ℕ) → i < n → NumbersFit m (handler_part m body i))))

@@ -59,7 +59,13 @@ fn blocks_bits(body: &[u32], m: usize, n: usize, last: u32) -> Option<u32>
     let blocks = &body[first.start..places::body_words(m, n)];
     let mut bits = 0;
     for block in blocks.chunks_exact(first.end - first.start) {
-        bits = span_bits(bits, block, &block[ahead..], places::HANDLER_NUMBERS, behind);
+        bits = span_bits(
+            bits,
+            block,
+            &block[ahead..],
+            places::HANDLER_NUMBERS,
+            behind,
+        );
         if !good_front(block, m, last) {
             return None;
         }
