@@ -1,5 +1,6 @@
 -- The admission of a file gives 30 and 15 exactly when docs/RULES.md says, and is sound exactly for a file that is run.
-use Rattle.std.proofs.Common.{ℕ, ◌≡◌, ◌<◌, Bool, true, false, not, MatchBool, List, length, get_or, HoldsAt, ◌↔◌, ◌⊎◌, inl, inr, refl, sym, subst, ◌∙◌, arith, zero-add}
+use Rattle.std.proofs.Common.{ℕ, ◌≡◌, ◌<◌, Bool, true, false, not, MatchBool, List, length, get_or, HoldsAt, ◌↔◌, ◌⊎◌, inl, inr}
+use Rattle.std.proofs.Common.{refl, sym, subst, ◌∙◌, arith, zero-add}
 use Rattle.std.proofs.Math.Option.{Option, none, some, some-ne-none}
 use Rattle.std.specs.List.{AllWithin, range_with_len}
 use Rattle.std.proofs.lemmas.List.FromFn.{length-range_with_len, get_or-range_with_len}
@@ -15,7 +16,7 @@ use Rattle.schedule.specs.Sound.{handlers_in, cells_in, script_in, SoundFile, is
 use Rattle.schedule.specs.Scripts.{is_whole}
 use Rattle.schedule.specs.Admitting.{Admission, refused, all_whole, file_checks, file_refusal, admitted, admission_of, GoodFile}
 use Rattle.schedule.specs.Admitting.{FileGiven, unsound, spoilt, AdmissionPromise}
-use Rattle.schedule.proofs.Sounds.{file_tested, not_sound_file}
+use Rattle.schedule.proofs.Sounds.{file_tested, sound_tested, not_sound_file}
 
 -- Where one place fails the test, not every place passes it.
 pub some_fails : (n : ℕ) (test : ℕ → Bool) (k : ℕ) → k < n → test k ≡ false → false ≡ every_below n test
@@ -58,12 +59,12 @@ module _ {file : List ℕ} where
     -- A sound file with a script that is not whole.
     pub admitted_spoilt : all_whole file ≡ false → AdmissionPromise file (refused unknown_step)
     unfolding admission_of admitted file_refusal file_checks first_hit
-    admitted_spoilt not_whole = let tested = (file_tested file).1 sound in record { replied = rw (tested, not_whole); left = refl }
+    admitted_spoilt not_whole = record { replied = rw (sound_tested file sound, not_whole); left = refl }
 
     -- A sound file whose scripts are whole.
     pub admitted_sound : all_whole file ≡ true → AdmissionPromise file (Admission.sound (handlers_in file) (cells_in file))
     unfolding admission_of admitted file_refusal file_checks first_hit
-    admitted_sound whole = let tested = (file_tested file).1 sound in record { replied = rw (tested, whole); left = refl }
+    admitted_sound whole = record { replied = rw (sound_tested file sound, whole); left = refl }
 
 -- ── Exactly then ──────────────────────────────────────────────────────
 

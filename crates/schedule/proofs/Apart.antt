@@ -37,7 +37,7 @@ admitted_same (Err refusal) = ap Err (refusal_same refusal)
 
 found_same : (found : Result Unit Refusal) → found_back (found_is found) ≡ found
 unfolding found_back
-found_same (Ok found) = refl
+found_same (Ok tt) = refl
 found_same (Err refusal) = ap Err (refusal_same refusal)
 
 next_same : (next : Next) → next_back (next_is next) ≡ next

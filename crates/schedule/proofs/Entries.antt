@@ -5,9 +5,13 @@ use Rattle.std.proofs.Math.Seq.{drop-append_seam}
 use Rattle.std.proofs.lemmas.List.{get_or_append_left}
 use Rattle.schedule.specs.Bytes.{byte_at, short_at, entry_at, offset_of, length_of}
 
--- The bytes of a table's entries from entry k on.
+-- The bytes of a table,
+abbrev pub table_bytes : List ℕ → ℕ → ℕ → List ℕ
+table_bytes file start entries = take (entry_at start entries - start) (drop start file)
+
+-- and those from entry k on.
 abbrev pub entries_from : List ℕ → ℕ → ℕ → ℕ → List ℕ
-entries_from file start entries k = drop (4 * k) (take (entry_at start entries - start) (drop start file))
+entries_from file start entries k = drop (4 * k) (table_bytes file start entries)
 
 -- The four bytes of entry k, and the rest behind them.
 pub record EntryRead (file : List ℕ) (start entries k : ℕ) (entry rest : List ℕ) : Type 0 where
@@ -27,7 +31,7 @@ module _ {file : List ℕ} {start entries k : ℕ} {entry rest : List ℕ} (read
       ∙ get_or-drop (4 * k) _ j 0 ∙ get_or-take _ (drop start file) (4 * k + j) 0 inside
       ∙ get_or-drop start file (4 * k + j) 0 ∙ ap (byte_at file) (omega arith)
 
-  -- The 16-bit number at an even place of it.
+  -- The 16-bit number at a place of it.
   short_there : (j place : ℕ) → j < 3 → place ≡ entry_at start k + j → short_at entry j ≡ short_at file place
   unfolding short_at
   short_there j place below there =
@@ -43,4 +47,6 @@ module _ {file : List ℕ} {start entries k : ℕ} {entry rest : List ℕ} (read
 
   -- What is left behind it.
   pub entries_left : rest ≡ entries_from file start entries (k + 1)
-  entries_left = sym (drop-append_seam entry rest) ∙ rw (read.four, ← read.front) (drop-drop 4 (4 * k) _ ∙ ap (λ count. drop count (take (entry_at start entries - start) (drop start file))) (omega arith))
+  entries_left =
+      sym (drop-append_seam entry rest) ∙ rw (read.four, ← read.front)
+      (drop-drop 4 (4 * k) _ ∙ ap (λ count. drop count (table_bytes file start entries)) (omega arith))

@@ -12,7 +12,7 @@ use Rattle.schedule.specs.Finding.{script_checks, script_refusal, script_part, f
 use Rattle.replies.specs.declared.Refusal.{Refusal as Replied}
 use Rattle.schedule.specs.declared.Part.{Part}
 use Rattle.schedule.specs.Fronts.{ScriptAt}
-use Rattle.schedule.proofs.Sounds.{file_tested, not_sound_file, body_inside}
+use Rattle.schedule.proofs.Sounds.{file_tested, sound_tested, not_sound_file, body_inside}
 
 module _ (file : List ℕ) (handler : ℕ) where
   -- The file is not sound.
@@ -24,14 +24,15 @@ module _ (file : List ℕ) (handler : ℕ) where
     -- There is no such handler.
     pub script_beyond : handlers_in file ≤ handler → script_refusal file handler ≡ some no_handler
     unfolding script_refusal script_checks first_hit
-    script_beyond beyond = rw ((file_tested file).1 sound, le-leb (handlers_in file) handler beyond)
+    script_beyond beyond = rw (sound_tested file sound, le-leb (handlers_in file) handler beyond)
 
     -- The script is found, and lies where the table says.
-    pub script_there : handler < handlers_in file → (script_refusal file handler ≡ none) × (entry_part file table_start handler ≡ script_part file handler)
+    pub script_there : handler < handlers_in file
+        → (script_refusal file handler ≡ none) × (entry_part file table_start handler ≡ script_part file handler)
     unfolding script_refusal script_checks first_hit found_part
-    script_there below = let tested = (file_tested file).1 sound in
+    script_there below =
         let inside = lt-leb (handlers_in file) handler below in
-        (rw (tested, inside), rw (tested, inside))
+        (rw (sound_tested file sound, inside), rw (sound_tested file sound, inside))
 
   -- Where a script lies is what was found, and 0 and 0 where nothing was.
   pub part_given : (found : Result Part Replied) → ScriptAt file handler found

@@ -1,5 +1,5 @@
 -- The next step at an order place by its ways, and the cursors that it leaves.
-use Rattle.std.proofs.Common.{ℕ, ◌≡◌, ◌+◌, ◌≤◌, ◌<◌, List, length, set, refl, sym, ap, ◌∙◌, arith}
+use Rattle.std.proofs.Common.{ℕ, ◌≡◌, ◌+◌, ◌≤◌, ◌<◌, true, List, length, set, refl, sym, ap, ◌∙◌, arith}
 use Rattle.std.proofs.Math.Option.{some}
 use borrow.Author.Tests.{le-leb, lt-leb}
 use Rattle.rules.specs.steps.Codes.{plain_sheet}
@@ -13,7 +13,7 @@ use Rattle.schedule.specs.Scripts.{ScriptStep, value_long}
 use Rattle.schedule.specs.Taking.{Cursors, cursor_of, Next, rejected, over, refused, taken, left_of, left_checks, place_checks, answered}
 use Rattle.schedule.specs.Taking.{named_next, next_of, cursors_after, places_in, NextPromise, PlacesPromise}
 use Rattle.schedule.specs.Fronts.{StepInFront, NamedNext}
-use Rattle.schedule.proofs.Sounds.{file_tested, not_sound_file, body_short}
+use Rattle.schedule.proofs.Sounds.{file_tested, sound_tested, not_sound_file, body_short}
 
 -- ── The handler that is named ─────────────────────────────────────────
 
@@ -62,28 +62,26 @@ module _ (file : List ℕ) (cursors : Cursors) (handler : ℕ) where
 
 module _ (file : List ℕ) (cursors : Cursors) (place : ℕ) where
   -- A file that is not sound.
-  pub next_unsound : {refusal : Refusal} → (¬ SoundFile file) × (refusal ≡ bad_file) → NextPromise file cursors place (rejected refusal) cursors
+  pub next_unsound : {refusal : Refusal} → (¬ SoundFile file) × (refusal ≡ bad_file)
+      → NextPromise file cursors place (rejected refusal) cursors
   unfolding next_of cursors_after
   next_unsound (unsound, is) = let bad = sym (not_sound_file unsound) in rw is (record { replied = rw bad; left = rw bad })
 
-  module _ (sound : SoundFile file) where
+  module _ (sound : is_sound_file file ≡ true) where
     -- A place beyond the order.
     pub next_over : length (order_in file) ≤ place → NextPromise file cursors place over cursors
     unfolding next_of cursors_after
     next_over beyond =
-        let tested = (file_tested file).1 sound in
         let ended = le-leb (length (order_in file)) place beyond in
-        record { replied = rw (tested, ended); left = rw (tested, ended) }
+        record { replied = rw (sound, ended); left = rw (sound, ended) }
 
     -- A place that names a handler.
-    pub next_named : {handler : ℕ} {reply : Next} {after : Cursors}
-        → (place < length (order_in file)) × (handler ≡ byte_at (order_in file) place)
-        → NamedNext file cursors handler reply after → NextPromise file cursors place reply after
+    pub next_named : {handler : ℕ} {reply : Next} {after : Cursors} → place < length (order_in file)
+        → handler ≡ byte_at (order_in file) place → NamedNext file cursors handler reply after → NextPromise file cursors place reply after
     unfolding next_of
-    next_named (inside, is) named =
-        let tested = (file_tested file).1 sound in
+    next_named inside is named =
         let there = lt-leb (length (order_in file)) place inside in
-        record { replied = rw (tested, there, ← is) named.replied; left = rw (tested, there, ← is) named.left }
+        record { replied = rw (sound, there, ← is) named.replied; left = rw (sound, there, ← is) named.left }
 
 -- ── The places ────────────────────────────────────────────────────────
 
@@ -96,7 +94,7 @@ module _ {file : List ℕ} where
   -- and else as many as the order has bytes.
   pub places_there : SoundFile file → PlacesPromise file (length (order_in file))
   unfolding places_in
-  places_there sound = record { replied = rw ((file_tested file).1 sound); left = refl }
+  places_there sound = record { replied = rw (sound_tested file sound); left = refl }
 
 -- There are no more places than a file has bytes.
 pub places_few : (file : List ℕ) → places_in file ≤ most_file_bytes

@@ -41,7 +41,11 @@ file_tested file = (to, from)
     from : SoundFile file → is_sound_file file ≡ true
     from sound = simp (and_iff, leb_iff, range_tested, table_tested) (sound.short, (sound.range, sound.table))
 
--- A file that is not sound is answered with no.
+-- A sound file is answered with yes,
+pub sound_tested : (file : List ℕ) → SoundFile file → is_sound_file file ≡ true
+sound_tested file = (file_tested file).1
+
+-- and one that is not sound with no.
 pub not_sound_file : {file : List ℕ} → (SoundFile file → ⊥) → false ≡ is_sound_file file
 not_sound_file out = answers_no _ (λ e. out ((file_tested _).0 e))
 
@@ -75,7 +79,8 @@ pub record Passed (file : List ℕ) (start entries count due : ℕ) : Type 0 whe
   pub placed : (k : ℕ) → k < count → offset_of file start k ≡ due_at file start entries k
 
 -- Before the first body the next is due directly after the table.
-pub passed_none : (file : List ℕ) (start entries : ℕ) → entry_at start entries ≤ length file → Passed file start entries 0 (entry_at start entries)
+pub passed_none : (file : List ℕ) (start entries : ℕ) → entry_at start entries ≤ length file
+    → Passed file start entries 0 (entry_at start entries)
 unfolding due_at
 passed_none file start entries whole =
     record { whole = whole; some = omega arith; next = refl; placed = λ k below. absurd (omega arith) }

@@ -76,7 +76,14 @@ pub whole_ends : (left : List ℕ) {refusal : Refusal} → first_hit (left_check
 unfolding left_checks first_hit steps_behind
 whole_ends [] stops = refl
 whole_ends (code ∷ bytes) {refusal} stops =
-    let left = code ∷ bytes in
-    ne_eqb (length left) 0 (λ e. omega arith) ∙ sym (ap is_found (by (is_unknown (plain_sheet code)) (λ e. steps_unknown left (omega arith) e)
-    (λ e. by (ltb (length left) (step_long left)) (λ short. steps_cut left (omega arith) e (ltb-true _ _ short))
-    (λ fits. absurd (some-ne-none refusal (sym stops ∙ rw (lt-leb (length left) 0 (omega arith), e, fits)))))))
+    ne_eqb (length left) 0 (λ e. omega arith) ∙ sym (ap is_found (by (is_unknown (plain_sheet code))
+    (steps_unknown left filled)
+    (λ known. by (ltb (length left) (step_long left))
+    (λ short. steps_cut left filled known (ltb-true _ _ short))
+    (λ fits. absurd (some-ne-none refusal (sym stops ∙ rw (lt-leb (length left) 0 filled, known, fits)))))))
+  where
+    left : List ℕ
+    left = code ∷ bytes
+
+    filled : 0 < length left
+    filled = omega arith

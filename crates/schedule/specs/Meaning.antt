@@ -1,4 +1,4 @@
--- What the enums of this crate mean in the definitions.
+-- What the answers of this crate mean in the definitions.
 use Rattle.std.specs.Prelude.{Result, Ok, Err}
 use Rattle.std.proofs.Math.Option.{Option, none, some}
 use Rattle.rules.specs.steps.Replies as Rules
@@ -17,7 +17,7 @@ admission_is (Err refusal) = Admitting.Admission.refused (refusal_is refusal)
 
 -- The answer beside a script: nothing where it is found, and else the refusal.
 abbrev pub found_is : Result Unit Refusal → Option Rules.Refusal
-found_is (Ok found) = none
+found_is (Ok tt) = none
 found_is (Err refusal) = some (refusal_is refusal)
 
 -- What comes next.

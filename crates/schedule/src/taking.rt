@@ -8,6 +8,7 @@ use crate::{Cursors, Next, Step};
 use replies::Refusal;
 
 // The order byte at a place, if the order has such a place.
+#[tactic(auto, using(crate::proofs::Sounds::sound_tested))]
 pub fn order_byte(sound: &Sound, place: usize) -> Option<u8>
     ensures { OrderOf sound.now.table.file.now place result }
 {

@@ -6,7 +6,9 @@ pub returns-in-Err : goal.returns-in-Err
 returns-in-Err c = next_unsound _ _ _ c.in-Err.ensures
 
 pub returns-in_default : goal.returns-in_default
-returns-in_default c = rw (← c.in-Ok.ensures) (next_over _ _ _ c.in-Ok.sound.sound c.in_default.ensures)
+returns-in_default c = rw (← c.in-Ok.ensures) (next_over _ _ _ c.in_default.ensures.0 c.in_default.ensures.1)
 
 pub returns : goal.returns
-returns c = rw (← c.in-Ok.ensures) (next_named _ _ _ c.in-Ok.sound.sound c.in-Some.ensures c.named_step.ensures)
+returns c =
+    let (sound, inside, is) = c.in-Some.ensures in
+    rw (← c.in-Ok.ensures) (next_named _ _ _ sound inside is c.named_step.ensures)

@@ -6,7 +6,8 @@ use Rattle.schedule.proofs.scripts.whole.Goals as goal
 
 pub loop-standing-preserved : goal.loop-standing-preserved
 loop-standing-preserved c =
-    c.loop-standing.invariant ∙ whole_on c.in-Ok.ensures ∙ sym (ap is_whole (take_all _ _ (omega (arith, length-drop c.in-Ok.standing.long c.loop-standing.left.now))))
+    let lent_whole = take_all _ _ (omega (arith, length-drop c.in-Ok.standing.long c.loop-standing.left.now)) in
+    c.loop-standing.invariant ∙ whole_on c.in-Ok.ensures ∙ sym (ap is_whole lent_whole)
 
 pub returns : goal.returns
 returns c = c.is_empty.ensures ∙ whole_ends _ c.in_default.ensures ∙ sym c.loop-standing.invariant
