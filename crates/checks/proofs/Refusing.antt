@@ -1,5 +1,6 @@
 -- The checks of a step one after another: what they come to where one holds first, and where none does.
-use Rattle.std.proofs.Common.{◌≡◌, ◌≤◌, ◌<◌, ℕ, refl, sym, Bool, true, false, not, ◌&&◌, [], ◌∷◌, Result, Ok, Err}
+use Rattle.std.proofs.Math.Option.{Option, none, some}
+use Rattle.std.proofs.Common.{arith, ◌≡◌, ◌≤◌, ◌<◌, ℕ, refl, sym, Bool, true, false, not, ◌&&◌, [], ◌∷◌, Result, Ok, Err}
 use borrow.Author.Tests.{le-leb, lt-leb}
 use Rattle.rules.specs.steps.Codes.{Step, Kind, known, unknown}
 use Rattle.rules.specs.steps.Replies.{Refusal, no_handler, no_cell, already_open, not_open, unknown_step}
@@ -56,3 +57,33 @@ module _ (m n handler : ℕ) (opened : Bool) where
         unfolding first_hit step_checks
         stops_phased placed {begins} is_one stood =
             says (rw (is, lt-leb n handler inside, placed, is_one, sym stood) (phase_checks_lem step (is_begin (known step)) opened))
+
+-- ── What an answer says of the checks ─────────────────────────────────
+
+-- A step is no refusal.
+step_no_refusal : {step : Step} {refusal : Refusal} → ◌≡◌ {A = Result Step Refusal} (Ok step) (Err refusal) → ⊥
+step_no_refusal e = let z : ◌≡◌ {A = ℕ} 0 1 = cc in omega arith
+
+module _ (m n handler : ℕ) (opened : Bool) where
+  -- The first check that holds, of a kind of step.
+  abbrev pub hit : Kind → Option Refusal
+  hit kind = first_hit (step_checks (asking true m n handler kind opened))
+
+  -- A step passes only where its kind is that of the code and no check holds.
+  pub verdict_passes : (kind : Kind) {step : Step} → Ok step ≡ verdict (hit kind) kind → (kind ≡ known step) × (hit kind ≡ none)
+  verdict_passes kind {step} e = by_hit (hit kind) kind e
+    where
+      by_hit : (found : Option Refusal) (k : Kind) → Ok step ≡ verdict found k → (k ≡ known step) × (found ≡ none)
+      by_hit (some r) k e = absurd (step_no_refusal e)
+      by_hit none (known s) e = (cc, refl)
+      by_hit none unknown e = absurd (step_no_refusal e)
+
+  -- A refusal is that of the first check that holds.
+  pub verdict_refuses : (kind : Kind) {refusal : Refusal} → Err refusal ≡ verdict (hit kind) kind → hit kind ≡ some refusal
+  unfolding first_hit step_checks
+  verdict_refuses (known s) {refusal} e = by_hit (hit (known s)) e
+    where
+      by_hit : (found : Option Refusal) → Err refusal ≡ verdict found (known s) → found ≡ some refusal
+      by_hit (some r) e = cc
+      by_hit none e = absurd (step_no_refusal (sym e))
+  verdict_refuses unknown {refusal} e = cc

@@ -13,14 +13,7 @@ ghost use Rattle.checks.specs.Promises.{TablePromise};
 ghost use Rattle.rows.specs.Rows.{steps_in, report_of, words_after, reports_of, RowPromise};
 ghost use Rattle.rows.specs.Meaning.{rowed_is};
 
-use replies::{Answer, Refusal};
-
-// What a row comes to: its steps are done, or it is refused and none is.
-#[derive(Clone, Copy)]
-pub enum Rowed {
-    Done,
-    Refused(Refusal),
-}
+use replies::{Refusal, Report};
 
 // Whether so many reports fit from a place on. Nothing is added up that could wrap, whatever the place.
 fn has_room(length: usize, place: usize, count: usize) -> bool
@@ -33,7 +26,13 @@ fn has_room(length: usize, place: usize, count: usize) -> bool
 }
 
 // Puts the report of a step at a place.
-fn put_report(reports: &mut [u32], at: usize, handler: u32, code: u32, answer: Answer)
+fn put_report(
+    reports: &mut [u32],
+    at: usize,
+    handler: u32,
+    code: u32,
+    answer: Result<Report, Refusal>,
+)
     requires { at + report_width ≤ length reports.old }
     ensures { reports.new
         ≡ splice at report_width (report_of (record { handler = handler; code = code; value = 0 }) (reply_is answer)) reports.old }
@@ -78,19 +77,24 @@ fn take_steps(
     }
 }
 
-// Takes the steps of a row, each on what the one before it left, and reports each.
-pub fn row(words: &mut [u32], steps: &[u32], reports: &mut [u32], place: usize) -> Rowed
+// Takes the steps of a row, each on what the one before it left, and reports each; or refuses the row, and takes none.
+pub fn row(
+    words: &mut [u32],
+    steps: &[u32],
+    reports: &mut [u32],
+    place: usize,
+) -> Result<(), Refusal>
     ensures { RowPromise words.old steps.now reports.old place (rowed_is result)
         words.new reports.new }
 {
     if !formed::well_formed(words) {
-        return Rowed::Refused(Refusal::NotWellFormed);
+        return Err(Refusal::NotWellFormed);
     }
     let count = steps.len() / limits::STEP_WIDTH;
     if !has_room(reports.len(), place, count) {
-        return Rowed::Refused(Refusal::NoRoom);
+        return Err(Refusal::NoRoom);
     }
     let table = checks::plain_table();
     take_steps(words, &table, steps, reports, place, count);
-    Rowed::Done
+    Ok(())
 }

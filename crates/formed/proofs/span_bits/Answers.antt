@@ -1,6 +1,6 @@
 -- `formed::span_bits` meets its contract: what the places passed say is laid over the bits.
 use native.Mathlib.Omega.{arith}
-use Rattle.formed.proofs.Gathers.{told_none, told_more, told_all, over_numbers}
+use Rattle.formed.proofs.Bits.{told_none, told_more, told_all, over_numbers}
 use Rattle.formed.proofs.span_bits.Goals as goal
 
 pub loop-y-init : goal.loop-y-init

@@ -1,7 +1,7 @@
 -- `formed::span_bits` meets its contract: what the places passed say is laid over the bits.
 use Prim.Native.Nat.{◌≤◌}
 use lib.ListN.{get_or}
-use Rattle.formed.proofs.Gathers.{Told}
+use Rattle.formed.proofs.Bits.{Told}
 use Rattle.formed.proofs.span_bits.Given as goal
 
 abbrev pub invariant-loop-y : goal.invariant-loop-y
