@@ -18,11 +18,7 @@ turns_enough (suc turns) zero n le ge = rw (lt-ltb n 10 (omega (arith, ge)))
 turns_enough (suc turns) (suc more) n le ge = by (ltb n 10) (λ small. rw small) (λ large.
     rw large (ap (◌++ digit (n % 10)) (turns_enough turns more (n / 10) (omega arith) (omega arith))))
 
--- A number below ten is its own last digit,
-pub digit_small : (n : ℕ) → n < 10 → n % 10 ≡ n
-digit_small n small = omega (arith, small)
-
--- and is spelled by it;
+-- A number below ten is its digit,
 pub decimal_digit : (n : ℕ) → n < 10 → decimal n ≡ digit n
 unfolding spelled
 decimal_digit zero small = refl

@@ -50,9 +50,10 @@ impl<'a> Page<'a> {
         ensures puts { Writes (decimal n) self.old self.new }
         ensures upper_bound { self.new.end ≤ self.old.end + 10 }
     {
-        if n >= 10 {
-            self.put_number(n / 10);
+        if n < 10 {
+            return self.put_byte(48 + n as u8);
         }
+        self.put_number(n / 10);
         self.put_byte(48 + (n % 10) as u8);
     }
 }

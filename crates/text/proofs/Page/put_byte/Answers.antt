@@ -6,6 +6,6 @@ use Rattle.text.proofs.Page.put_byte.Goals.{then-self, else-self}
 
 pub returns : goal.returns
 returns c = elim c.if-self.branch [
-  | then-self w ↦ rw w.self-is (record { same = refl; puts = puts_byte refl })
-  | else-self w ↦ rw w.self-is (record { same = refl; puts = puts_beyond (omega arith) refl })
+  | then-self w ↦ rw w.self-is (record { same = refl; puts = puts_byte (omega arith) })
+  | else-self w ↦ rw w.self-is (record { same = refl; puts = puts_beyond (omega arith) (omega arith) })
 ]
