@@ -1,11 +1,7 @@
 -- What a place shows and leaves, by what comes next there, whoever answers its steps.
-use Prim.Native.Nat.{ℕ}
-use mathlib.Core.Path.{◌≡◌, refl, sym, ap, ◌∙◌, subst}
-use mathlib.Core.List.{List}
-use mathlib.Core.Option.{some}
+use Rattle.std.proofs.Common.{ℕ, ◌≡◌, refl, sym, ap, ◌∙◌, subst, List, ◌⊎◌, inl, inr, Result}
+use Rattle.std.proofs.Math.Option.{some}
 use Rattle.rules.specs.steps.Replies as Rules
-use Rattle.std.specs.Prelude.{Result}
-use Rattle.replies.specs.declared.Refusal.{Refusal}
 use Rattle.replies.specs.declared.Report.{Report}
 use Rattle.replies.specs.declared.Refusal.{Refusal}
 use Rattle.replies.specs.Meaning.{refusal_is, reply_is}
@@ -26,14 +22,20 @@ module _ {player : Player} {words : List ℕ} where
   shown_as {shown = shown} {after} is = subst (λ next. NextShown player words (next_is next) shown after) (sym is)
 
   -- A file that is refused shows nothing,
-  pub rejected_shown : {refusal : Rules.Refusal} → NextShown player words (rejected refusal) Nothing words
+  rejected_shown : {refusal : Rules.Refusal} → NextShown player words (rejected refusal) Nothing words
   unfolding line_for words_for
   rejected_shown = record { line = λ place. refl; left = refl }
 
   -- nor does a place beyond the order,
-  pub over_shown : NextShown player words over Nothing words
+  over_shown : NextShown player words over Nothing words
   unfolding line_for words_for
   over_shown = record { line = λ place. refl; left = refl }
+
+  -- so either shows nothing;
+  pub nothing_shown : {next : Next} → ((refusal : Refusal) × (next ≡ Next.Rejected refusal)) ⊎ (next ≡ Next.Over)
+      → NextShown player words (next_is next) Nothing words
+  nothing_shown (inl (refusal, is)) = shown_as is rejected_shown
+  nothing_shown (inr is) = shown_as is over_shown
 
   -- a refusal shows itself,
   pub refused_shown : {handler : ℕ} {refusal : Refusal} → NextShown player words (refused handler (refusal_is refusal)) (NoStep handler refusal) words
