@@ -24,7 +24,6 @@ use runs::Player;
 use schedule::Sizes;
 
 // Whether some count of the sheet is above the one up to which it takes a file.
-#[tactic(auto, using(crate::proofs::Full::full_at_lem))]
 fn is_full(sheet: &[u32]) -> bool
     requires { sheet_long ≤ length sheet.now }
     ensures { result ≡ is_full sheet.now }
@@ -63,12 +62,7 @@ fn put_counts(sheet: &mut [u32], at: usize, counts: Counts)
 }
 
 // Counts the answer to a handler's step; a handler that no register has, has no row.
-fn count_answer(
-    sheet: &mut [u32],
-    handler: u8,
-    code: u8,
-    answer: Result<Report, Refusal>,
-)
+fn count_answer(sheet: &mut [u32], handler: u8, code: u8, answer: Result<Report, Refusal>)
     requires { CountsTo most_raised sheet.old }
     ensures { WithShown (Asked handler code answer) sheet.old sheet.new }
 {
