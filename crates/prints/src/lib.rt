@@ -14,7 +14,7 @@ ghost use Rattle.prints.specs.ByPlaces.{shown_cells, admitted_text, file_text, P
 ghost use Rattle.schedule.specs.Admitting.{sound};
 
 use runs::Player;
-use schedule::Admitted;
+use schedule::Sizes;
 use text::Page;
 
 // Puts the line of each order place, one after another, until the run stops; whether it came to its end.
@@ -59,20 +59,19 @@ fn put_run(
     page: &mut Page<'_>,
     player: Player,
     file: &[u8],
-    handlers: u32,
-    cells: u32,
+    sizes: Sizes,
     words: &mut [u32],
 )
-    requires { (page.old.end ≡ 0) × (cells ≤ most_cells) }
-    ensures puts { Writes (admitted_text (player_is player) file.now words.old (sound handlers cells)) page.old page.new }
+    requires { (page.old.end ≡ 0) × (sizes.cells ≤ most_cells) }
+    ensures puts { Writes (admitted_text (player_is player) file.now words.old (sound sizes.handlers sizes.cells)) page.old page.new }
     ensures upper_bound { page.new.end ≤ most_printed }
 {
-    runs::open(player, words, cells, handlers);
-    lines::put_header(page, handlers, cells);
+    let _ = runs::open(player, words, sizes.cells, sizes.handlers);
+    lines::put_header(page, sizes.handlers, sizes.cells);
     let places = schedule::order_places(file);
     let whole = put_places(page, player, file, places, words);
     if whole {
-        put_cells(page, player, words, cells);
+        put_cells(page, player, words, sizes.cells);
     }
 }
 
@@ -83,10 +82,8 @@ fn put_file(page: &mut Page<'_>, player: Player, file: &[u8], words: &mut [u32])
     ensures upper_bound { page.new.end ≤ most_printed }
 {
     match schedule::admit_file(file) {
-        Admitted::Sound { handlers, cells } => {
-            put_run(page, player, file, handlers, cells, words);
-        }
-        Admitted::Rejected(refusal) => lines::put_refused(page, refusal),
+        Ok(sizes) => put_run(page, player, file, sizes, words),
+        Err(refusal) => lines::put_refused(page, refusal),
     }
 }
 

@@ -4,7 +4,7 @@ use Rattle.prints.proofs.Runs.{admitted_cells, refused_put}
 use Rattle.prints.proofs.put_file.Goals as goal
 
 pub put_run-requires : goal.put_run-requires
-put_run-requires c = (omega arith, admitted_cells _ c.in-Sound.ensures.replied)
+put_run-requires c = (omega arith, admitted_cells _ c.in-Ok.ensures.replied)
 
-pub returns-in-Rejected-clause-puts : goal.returns-in-Rejected-clause-puts
-returns-in-Rejected-clause-puts c = refused_put _ _ _ c.in-Rejected.ensures.replied c.put_refused.ensures.puts
+pub returns-in-Err-clause-puts : goal.returns-in-Err-clause-puts
+returns-in-Err-clause-puts c = refused_put _ _ _ c.in-Err.ensures.replied c.put_refused.ensures.puts
