@@ -7,12 +7,6 @@ use Rattle.block.proofs.Stores.{stored, stored_at}
 use Rattle.block.proofs.Held.{wrote_held}
 use Rattle.block.proofs.write.Goals as goal
 
-pub bounds-block-2 : goal.bounds-block-2
-bounds-block-2 c = simp length-set (omega arith)
-
-pub bounds-block-2-2 : goal.bounds-block-2-2
-bounds-block-2-2 c = simp length-set (omega arith)
-
 pub returns : goal.returns
 returns c = let before = c.requires.0 in
     let holds = viewed_handler _ c.args.block.now before.words.size before.good in
