@@ -16,7 +16,10 @@ use replies::{Refusal, Report};
 pub extern "C" fn zidlemowo_length(m: u32, n: u32) -> u32
     ensures { LengthNumber m n result }
 {
-    register::words_needed(m, n).map_or(0, |count| count as u32)
+    match register::words_needed(m, n) {
+        Some(count) => count as u32,
+        None => 0,
+    }
 }
 
 // What a call came to as a number: 0, or the refusal's.
