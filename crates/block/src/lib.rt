@@ -8,7 +8,7 @@ ghost use Rattle.rules.specs.steps.Figure.{begun, wrote};
 ghost use Rattle.layout.specs.Places.{transaction_from, transaction_number_in};
 ghost use Rattle.layout.specs.View.{word_setting, view_handler, pour_handler};
 ghost use Rattle.words.specs.Rows.{Changed};
-ghost use Rattle.block.specs.Blocks.{Block, OpenBlock, row_table, Small, joined_with};
+ghost use Rattle.block.specs.Blocks.{Block, OpenBlock, row_table, joined_with};
 
 // Phase 1, both sets empty, the transaction's numbers become the handler's, copies 0.
 pub fn begin(block: &mut [u32], m: usize)
@@ -48,7 +48,7 @@ fn raise(block: &mut [u32], m: usize, numbers: &[u32; limits::ROW])
 
 // All numbers of the transaction are raised to a cell's, cell x joins the read set at its own, and the copy becomes its value.
 pub fn join(block: &mut [u32], m: usize, x: usize, value: u32, numbers: &[u32; limits::ROW])
-    requires { OpenBlock m block.old × (x < m) × Small m (row_table numbers.now) }
+    requires { OpenBlock m block.old × (x < m) }
     ensures { block.new ≡ pour_handler m (joined_with (view_handler m block.old) x value (row_table numbers.now)) }
 {
     let transaction = places::transaction_numbers(m);

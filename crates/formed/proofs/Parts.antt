@@ -1,12 +1,13 @@
 -- What is looked at of the words: spans of two tables are tables of numbers, the cells' by halves; and a block is its front and numbers.
-use Rattle.std.proofs.Common.{ℕ, ◌+◌, ◌*◌, ◌-◌, ◌/◌, ◌^◌, ◌≤◌, ◌<◌, ◌≡◌, ◌↔◌, inl, inr, eqb, IsTrue, bit_or, List, length, length-drop, get_or, get_or-drop}
-use Rattle.std.proofs.Common.{◌++◌, take, drop, drop_at, drop-drop, get_or-take, length-append, length-take, lt_of_mul-lt-mul_right, refl, sym, ap, ◌∙◌, arith, eqb-true, eq-eqb}
+use Rattle.std.proofs.Common.{ℕ, ◌+◌, ◌*◌, ◌-◌, ◌/◌, ◌^◌, ◌≤◌, ◌<◌, ◌≡◌, ◌↔◌, inl, inr, eqb, IsTrue, bit_or, List, length, length-drop, get_or}
+use Rattle.std.proofs.Common.{get_or-drop, ◌++◌, take, drop, drop_at, drop-drop, get_or-take, length-append, length-take, lt_of_mul-lt-mul_right}
+use Rattle.std.proofs.Common.{refl, sym, ap, ◌∙◌, arith, eqb-true, eq-eqb}
 use Rattle.std.proofs.Math.Logic.Iff
 use Rattle.std.proofs.lemmas.Bool.{cases_lt}
 use Rattle.std.proofs.lemmas.List.{get_or_append_left}
 use Rattle.layout.specs.Rows.{part}
-use Rattle.layout.specs.Places.{cell_long, handler_long, body_long, cell_start, handler_start, cell_part, handler_part, number_in, handler_number_in, transaction_number_in}
-use Rattle.layout.specs.Places.{phase_in, read_set_in, written_set_in}
+use Rattle.layout.specs.Places.{cell_long, handler_long, body_long, cell_start, handler_start, cell_part, handler_part, number_in}
+use Rattle.layout.specs.Places.{phase_in, read_set_in, written_set_in, handler_number_in, transaction_number_in}
 use Rattle.layout.specs.WellFormed.{NoBitFrom}
 use Rattle.layout.proofs.Rows.{part_at, part_is, rows_apart}
 use Rattle.layout.proofs.Fronts.{behind_is}
@@ -133,9 +134,13 @@ blocks_end m n body i {left} fits cut few = elim (cases_lt i n) [ inl more ↦ a
 
 -- Behind its front a block's span holds the handler's numbers, and m words further on those of its transaction.
 pub block_span : (m : ℕ) (block : List ℕ) {ahead to : ℕ} → ahead ≡ m → to ≡ 3 + m → SpanFits block (behind ahead block) 3 to ↔ NumbersFit m block
-block_span m block {ahead} there onward = span_tables block (behind ahead block) m onward {numbers = handler_number_in block} {numbers' = transaction_number_in m block}
-    (λ y h. refl)
-    (λ y h. behind_at ahead block (3 + y) ∙ ap (λ (place : ℕ). get_or block place 0) (let same : ahead + (3 + y) ≡ 3 + m + y = omega arith in same))
+block_span m block {ahead} there onward = span_tables block (behind ahead block) m onward first second
+  where
+    first : Holds 3 m block (handler_number_in block)
+    first y h = refl
+
+    second : Holds 3 m (behind ahead block) (transaction_number_in m block)
+    second y h = behind_at ahead block (3 + y) ∙ ap (λ (place : ℕ). get_or block place 0) (let same : ahead + (3 + y) ≡ 3 + m + y = omega arith in same)
 
 -- A front is good just when its phase is and nothing of its two sets, laid over each other, is left from bit m on.
 pub front_good : (last m : ℕ) (block : List ℕ) → phase_in block ≤ last

@@ -9,7 +9,8 @@ ghost use Rattle.layout.specs.WellFormed.{is_good_body, is_well_formed};
 ghost use Rattle.formed.specs.Seen.{Fit, SpanFits, GoodFront, BlocksSeen};
 
 // Bits with the words of two tables, from a place to another, laid over them: at most 65,535 exactly where the bits and all those
-// words are. Two tables make half as many turns as one.
+// words are. Two tables make half as many turns as one; one place for both is kept since two slices zipped cost a small register's test
+// an eighth more.
 fn span_bits(bits: u32, first: &[u32], second: &[u32], from: usize, to: usize) -> u32
     requires { (from ≤ to) × (to ≤ length first.now) × (to ≤ length second.now) }
     ensures { (result ≤ most_number) ↔ ((bits ≤ most_number) × SpanFits first.now second.now from to) }
@@ -48,7 +49,7 @@ fn good_front(block: &[u32], m: usize, last: u32) -> bool
 }
 
 // The bits of the numbers of all handlers; nothing where the front of a block is not good. A handler's numbers are looked at beside those
-// of its transaction.
+// of its transaction, and the front behind them: with a way out in front of them the largest register's test costs a tenth more.
 fn blocks_bits(body: &[u32], m: usize, n: usize, last: u32) -> Option<u32>
     requires { (m ≤ most_cells) × (n ≤ most_handlers) × (body_long m n ≤ length body.now) }
     ensures { BlocksSeen last m n body.now result }

@@ -1,5 +1,5 @@
 -- `block::settle` meets its contract: the transaction's numbers are copied to the handler's, and the block is put to rest.
-use mathlib.Core.Path.{ap, ◌∙◌}
+use Rattle.std.proofs.Common.{ap, ◌∙◌}
 use Rattle.rules.specs.steps.Register.{idle}
 use Rattle.layout.specs.View.{word_setting, pour_handler}
 use Rattle.block.proofs.Headed.{settles}

@@ -10,7 +10,7 @@ use Rattle.layout.proofs.Places.{cell_ends}
 use Rattle.words.specs.Sets.{found_is}
 use Rattle.steps.proofs.Lent.{block_lies, cells_lie, block_words, block_open}
 use Rattle.steps.proofs.Said.{read_among}
-use Rattle.steps.proofs.FirstReading.{torn_told, torn_takes, row_small, read_takes}
+use Rattle.steps.proofs.FirstReading.{torn_told, torn_takes, read_takes}
 use Rattle.steps.proofs.single.first_read.Goals as goal
 use Rattle.steps.proofs.single.first_read.Goals.{After-block_at-span, After-torn}
 
@@ -68,8 +68,4 @@ pub copy_out-row-requires : goal.copy_out-row-requires
 copy_out-row-requires c = (omega (arith, lies (goal.at.copy_out-row-requires c).After-block_at-span), c.requires.ready.seated.formed.few)
 
 pub join-requires : goal.join-requires
-join-requires c = let ready = c.requires.ready in (
-  block_open ready.seated c.block_at-span.ensures ready.phase,
-  ready.cell,
-  row_small c.requires c.cell_at-first.ensures.starts c.block_at-span.ensures c.copy_out-row.ensures,
-)
+join-requires c = let ready = c.requires.ready in (block_open ready.seated c.block_at-span.ensures ready.phase, ready.cell)
