@@ -6,7 +6,7 @@ use Rattle.counts.specs.Counting.{Count, adds}
 use Rattle.counts.specs.Rows.{in_column, BroughtUp}
 
 -- What holds of each of the six columns holds of all.
-each_column : (P : ℕ → Type 0) → P 0 → P 1 → P 2 → P 3 → P 4 → P 5 → (k : ℕ) → k < 6 → P k
+pub each_column : (P : ℕ → Type 0) → P 0 → P 1 → P 2 → P 3 → P 4 → P 5 → (k : ℕ) → k < 6 → P k
 each_column P p0 p1 p2 p3 p4 p5 zero small = p0
 each_column P p0 p1 p2 p3 p4 p5 (suc zero) small = p1
 each_column P p0 p1 p2 p3 p4 p5 (suc (suc zero)) small = p2

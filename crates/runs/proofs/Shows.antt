@@ -4,7 +4,9 @@ use mathlib.Core.Path.{◌≡◌, refl, sym, ap, ◌∙◌, subst}
 use mathlib.Core.List.{List}
 use mathlib.Core.Option.{some}
 use Rattle.rules.specs.steps.Replies as Rules
-use Rattle.replies.specs.declared.Answer.{Answer}
+use Rattle.std.specs.Prelude.{Result}
+use Rattle.replies.specs.declared.Refusal.{Refusal}
+use Rattle.replies.specs.declared.Report.{Report}
 use Rattle.replies.specs.declared.Refusal.{Refusal}
 use Rattle.replies.specs.Meaning.{refusal_is, reply_is}
 use Rattle.schedule.specs.declared.Next.{Next}
@@ -39,7 +41,7 @@ module _ {player : Player} {words : List ℕ} where
   refused_shown = record { line = λ place. refl; left = refl }
 
   -- and a step that is asked shows the reply to it.
-  pub asked_shown : {handler code value : ℕ} {answer : Answer} {after : List ℕ}
+  pub asked_shown : {handler code value : ℕ} {answer : Result Report Refusal} {after : List ℕ}
       → PlayerStepPromise player words handler code value (reply_is answer) after
       → NextShown player words (taken handler (record { code = code; value = value })) (Asked handler code answer) after
   unfolding line_for words_for
