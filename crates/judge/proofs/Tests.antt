@@ -52,6 +52,9 @@ pub ledger_kept : (b : Bool) (words : List ℕ) → b ≡ is_ledger words → On
 ledger_kept true words e = (tested words).0 (sym e)
 ledger_kept false words e = tt
 
+-- All of it.
+pub ruleset ledger_tests = (ledger_short, ledger_out, ledger_counted, ledger_kept)
+
 -- ── An open handler ───────────────────────────────────────────────────
 
 -- Beyond the handlers none is open,

@@ -22,7 +22,8 @@ module _ (test : ℕ → Bool) (last : ℕ → ℕ) (none : last 0 ≡ 0) (newes
   passed_over zero h fails = absurd (omega arith)
   passed_over (suc k) h fails = rw sub-one (sym (rw add-one at (older k (rw add-one fails))))
 
-  module _ {F : Type 0} {g : Mut F (Bor ℕ × Unit {0}) Bool} (f : F) (tells : (place : ℕ) (b : Bool) (q : F) → CalledAt g f place b q → (q ≡ f) × (b ≡ test place)) where
+  module _ {F : Type 0} {g : Mut F (Bor ℕ × Unit {0}) Bool} (f : F)
+      (tells : (place : ℕ) (b : Bool) (q : F) → CalledAt g f place b q → (q ≡ f) × (b ≡ test place)) where
     -- Whatever was passed before, the place at which the search ends is the last one.
     found : (passed : List ℕ) (s t u : Range ℕ) (q : F) (r : Option ℕ) (count : ℕ) → s.start ≡ 1 → s.end ≡ count + 1
         → Yields nat_range_steps_back s passed t → nat_range_steps_back t r u
