@@ -32,7 +32,8 @@ module _ (test : ℕ → Bool) {F : Type 0} where
           → b ≡ some_below count (λ k. test (k + 1))
       by true (k, below, holds) = let inside : k < count = omega (arith, length-range_with_len 1 count) in
           sym (some_from count _ k inside (ap test (sym (each k inside)) ∙ holds 0))
-      by false none = sym (some_none count _ (λ k inside. ap test (sym (each k inside)) ∙ none k 0 (omega arith) (omega (arith, length-range_with_len 1 count))))
+      by false none = sym (some_none count _ (λ k inside.
+          let below : k < length all = omega (arith, length-range_with_len 1 count) in ap test (sym (each k inside)) ∙ none k 0 (omega arith) below))
 
   -- The lowest number below m that passes is found, if there is one.
   pub first_told : {g : Mut F (Bor ℕ × Unit {0}) Bool} (u : Range ℕ) (f : F) (r : Option ℕ) (m : ℕ)

@@ -34,32 +34,35 @@ pub fn has_copy(row: Row<'_>, x: usize) -> bool
     row.source(x) != None || row.wrote(x)
 }
 
-// The present version of the cell x: its writer, and its number, which is how many versions the commits wrote.
-#[tactic(auto, using(crate::proofs::Present::present_none, crate::proofs::Present::present_wrote, crate::proofs::Present::present_kept))]
-pub fn present_version(history: History<'_>, x: usize) -> Version
-    requires { x < most_cells }
-    ensures version { (m : ℕ) → x < m → let commits = commits_in m history.entry.words.now history.entry.count in
-        (result.writer ≡ writer commits x) × (result.number ≡ version_count commits x) }
-    ensures within { result.writer ≤ history.entry.count }
-{
-    let mut writer = 0;
-    let mut number = 0;
-    for place in 1..history.count + 1 {
-        if history.commit(place).wrote(x) {
-            writer = place;
-            number += 1;
-        }
-    }
-    Version { writer, number }
-}
-
 // The place of the commit that wrote the cell's present version; 0 for the opening's.
 pub fn writer_of(history: History<'_>, x: usize) -> usize
     requires { x < most_cells }
     ensures writer { (m : ℕ) → x < m → result ≡ writer (commits_in m history.entry.words.now history.entry.count) x }
     ensures within { result ≤ history.entry.count }
 {
-    present_version(history, x).writer
+    (1..history.count + 1)
+        .rfind(|&place| history.commit(place).wrote(x))
+        .unwrap_or(0)
+}
+
+// The present version of the cell x: its writer, and its number, which is how many versions the commits wrote.
+#[tactic(auto, using(crate::proofs::Present::counted_none, crate::proofs::Present::counted_more, crate::proofs::Present::counted_kept))]
+pub fn present_version(history: History<'_>, x: usize) -> Version
+    requires { x < most_cells }
+    ensures version { (m : ℕ) → x < m → let commits = commits_in m history.entry.words.now history.entry.count in
+        (result.writer ≡ writer commits x) × (result.number ≡ version_count commits x) }
+    ensures within { result.writer ≤ history.entry.count }
+{
+    let mut number = 0;
+    for place in 1..history.count + 1 {
+        if history.commit(place).wrote(x) {
+            number += 1;
+        }
+    }
+    Version {
+        writer: writer_of(history, x),
+        number,
+    }
 }
 
 // What the cell's present version shows.

@@ -9,24 +9,25 @@ use Rattle.checks.specs.declared.Step.TheVariants as Variants
 use Rattle.checks.specs.Meaning.{step_is}
 use Rattle.words.specs.Sets.{found_is}
 use borrow.Author.Tests.{lt-leb}
-use Rattle.rules.specs.steps.Codes.{Step, begin, try, give_up, read, write}
+use Rattle.rules.specs.steps.Tables.{lowest}
+use Rattle.rules.specs.steps.Codes.{Step, begin, give_up, read, write}
 use Rattle.rules.specs.steps.Replies.{overtaken, committed}
 use Rattle.rules.specs.steps.Checks.{◌naming◌, in_range, first_hit}
 use Rattle.rules.specs.steps.Register.{Setting}
 use Rattle.rules.specs.history.History.{Deed, Commit, has_read, has_written, writer}
 use Rattle.rules.specs.history.Past.{tears_at}
-use Rattle.rules.specs.demand.Judge.{or_aborted, answer_read, answer}
+use Rattle.rules.specs.demand.Judge.{stale, or_aborted, answer_read, answer}
 use Rattle.rules.proofs.steps.Tables.{by, found}
 use Rattle.layout.specs.Places.{cells_of, handlers_of}
 use Rattle.layout.specs.View.{word_setting}
 use Rattle.layout.proofs.Rows.{below_beyond}
 use Rattle.ledger.specs.Entries.{ledger_long, most_commits, commits_noted, Ledger, is_ledger, handler_row, entry_in}
-use Rattle.ledger.specs.Histories.{is_open, history_in}
+use Rattle.ledger.specs.Histories.{is_open, deeds_of, commits_in, history_in}
 use Rattle.ledger.specs.Promises.{is_commit}
 use Rattle.ledger.proofs.Faithful.{opened_is}
 use Rattle.ledger.proofs.Tested.{tested}
-use Rattle.judge.specs.Taking.{answer_of}
-use Rattle.judge.proofs.Answers.{stale_cell, try_asked}
+use Rattle.judge.specs.Taking.{JudgeReady, answer_of}
+use Rattle.judge.proofs.Answers.{try_asked, stale_told}
 
 -- ── A ledger ──────────────────────────────────────────────────────────
 
@@ -50,6 +51,9 @@ module _ (words : List ℕ) (long : ledger_long ≤ length words) where
 pub ledger_kept : (b : Bool) (words : List ℕ) → b ≡ is_ledger words → OnTrue b (Ledger words)
 ledger_kept true words e = (tested words).0 (sym e)
 ledger_kept false words e = tt
+
+-- All of it.
+pub ruleset ledger_tests = (ledger_short, ledger_out, ledger_counted, ledger_kept)
 
 -- ── An open handler ───────────────────────────────────────────────────
 
@@ -116,10 +120,13 @@ module _ (words : List ℕ) (i : ℕ) where
   other_passes (Variants.Write x) other = write_passes x
 
   -- without room a try is, unless a read is stale.
-  pub try_too_many : (told : Option ℕ) → Ledger words → i < handlers_of words → most_commits ≤ commits_noted words
-      → stale_cell words i ≡ found_is told → not (is_some told) ≡ too_many try
-  try_too_many told ledger seat full said = rw (try_asked ledger seat, said, le-leb most_commits (commits_noted words) full) (commits_unless told)
+  pub try_too_many : {m : ℕ} (step : Checks.Step) (told : Option ℕ) (row : ℕ) → JudgeReady words m i (step_is step) → step ≡ Variants.Try
+      → most_commits ≤ commits_noted words → row ≡ handler_row i
+      → found_is told ≡ lowest m (stale (commits_in m words (commits_noted words)) (deeds_of (entry_in words row) m))
+      → too_many (step_is step) ≡ not (is_some told)
+  try_too_many step told row ready tried full there asked =
+      rw (tried, try_asked ready.ledger ready.handler, stale_told ready there asked, le-leb most_commits (commits_noted words) full) (commits_unless told)
     where
-      commits_unless : (told : Option ℕ) → not (is_some told) ≡ is_commit (or_aborted (first_hit ((overtaken naming (found_is told)) ∷ [])) committed)
+      commits_unless : (told : Option ℕ) → is_commit (or_aborted (first_hit ((overtaken naming (found_is told)) ∷ [])) committed) ≡ not (is_some told)
       commits_unless (Some z) = unfold or_aborted first_hit in refl
       commits_unless None = unfold or_aborted first_hit in refl

@@ -11,7 +11,7 @@ use checks::Step;
 use past::{History, Row};
 
 // Whether the words are a ledger.
-#[tactic(auto, using(crate::proofs::Tests::ledger_short, crate::proofs::Tests::ledger_out, crate::proofs::Tests::ledger_counted, crate::proofs::Tests::ledger_kept))]
+#[tactic(auto, using(crate::proofs::Tests::ledger_tests))]
 pub fn is_ledger(words: &[u32]) -> bool
     ensures tested { result ≡ is_ledger words.now }
     ensures kept { OnTrue result (Ledger words.now) }

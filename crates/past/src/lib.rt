@@ -86,7 +86,7 @@ pub fn past_of_transaction(
 // A version's past is asked of the commit that wrote it; the opening's version has none.
 #[cycle(past_of_transaction_past_of_version)]
 pub fn past_of_version(history: History<'_>, m: usize, place: usize, marks: Marks) -> Marks
-    requires within_bounds { (m ≤ most_cells) × (place ≤ history.count) }
+    requires within_bounds { (m ≤ most_cells) × (place ≤ most_commits) }
     requires closed { Closed m history.words.now (marked marks.0) }
     ensures { Adds (past_of_version m history.entry.words.now place) marks.0 result.0 }
 {

@@ -4,7 +4,8 @@ use Rattle.ledger.proofs.Commits.{last_stood}
 use Rattle.past.proofs.Pasts.{source_stood}
 use Rattle.past.proofs.Asked.{adds_own, adds_cell, closed_cells, adds_opening, adds_again, adds_version}
 use Rattle.past.proofs.+past_of_transaction_past_of_version.Goals as goal
-use Rattle.past.proofs.+past_of_transaction_past_of_version.Goals.{past_of_version-then-place-eq0-via-then-place-eq0, past_of_version-then-place-eq0-via-else-place-eq0+then-has}
+use Rattle.past.proofs.+past_of_transaction_past_of_version.Goals.{past_of_version-then-place-eq0-via-then-place-eq0}
+use Rattle.past.proofs.+past_of_transaction_past_of_version.Goals.{past_of_version-then-place-eq0-via-else-place-eq0+then-has}
 
 -- ── A transaction's past ──────────────────────────────────────────────
 
