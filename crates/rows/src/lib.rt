@@ -3,7 +3,7 @@
 // PUBLIC: `row` has no `requires`; its promise fixes the reply, every word of the register, of the reports and around them.
 #![tactic(auto)]
 
-ghost use Rattle.std.specs.Prelude.{◌≡◌, not, ◌+◌, ◌*◌, ◌≤◌, ltb, length, take};
+ghost use Rattle.std.specs.Prelude.{◌≡◌, not, ◌+◌, ◌*◌, ◌≤◌, ltb, length};
 ghost use Rattle.rules.specs.steps.Codes.{plain_sheet};
 ghost use Rattle.limits.specs.Limits.{step_width, report_width};
 ghost use Rattle.layout.specs.Rows.{splice};

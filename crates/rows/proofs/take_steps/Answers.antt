@@ -33,9 +33,6 @@ loop-k-init c = record {
   takes = takes_none _ _ _ _ c.requires.well_formed.0;
 }
 
-pub step_formed-turned-requires : goal.step_formed-turned-requires
-step_formed-turned-requires c = c.loop-k.invariant.takes.formed
-
 pub put_report-requires : goal.put_report-requires
 put_report-requires c =
     let loop = c.loop-k.invariant in
