@@ -3,7 +3,7 @@
 // PUBLIC: `row` has no `requires`; its promise fixes the reply, every word of the register, of the reports and around them.
 #![tactic(auto)]
 
-ghost use Rattle.std.specs.Prelude.{◌≡◌, not, ◌+◌, ◌*◌, ◌≤◌, ltb, length, take};
+ghost use Rattle.std.specs.Prelude.{◌≡◌, not, ◌+◌, ◌*◌, ◌≤◌, ltb, length};
 ghost use Rattle.rules.specs.steps.Codes.{plain_sheet};
 ghost use Rattle.limits.specs.Limits.{step_width, report_width};
 ghost use Rattle.layout.specs.Rows.{splice};
@@ -45,26 +45,18 @@ fn put_report(
     reports[at + places::REPORT_CELL] = numbers.cell;
 }
 
-// Takes so many steps of a row by the table of the plain sheet, and puts the report of each behind that of the one before it.
-fn take_steps(
-    words: &mut [u32],
-    table: &[u8],
-    steps: &[u32],
-    reports: &mut [u32],
-    place: usize,
-    count: usize,
-)
+// Takes the steps of a row by the table of the plain sheet, and puts the report of each behind that of the one before it.
+fn take_steps(words: &mut [u32], table: &[u8], steps: &[u32], reports: &mut [u32], place: usize)
     requires table_promise { TablePromise plain_sheet table.now }
-    requires well_formed { WellFormed words.old × (step_width * count ≤ length steps.now) × (place + report_width * count ≤ length reports.old) }
-    ensures { (words.new ≡ words_after words.old (take count (steps_in steps.now)))
+    requires well_formed { WellFormed words.old × (place + report_width * length (steps_in steps.now) ≤ length reports.old) }
+    ensures { (words.new ≡ words_after words.old (steps_in steps.now))
         × (reports.new
-        ≡ splice place (report_width * count) (reports_of words.old (take count (steps_in steps.now))) reports.old) }
+        ≡ splice place (report_width * length (steps_in steps.now)) (reports_of words.old (steps_in steps.now)) reports.old) }
 {
-    for k in 0..count {
-        let at = limits::STEP_WIDTH * k;
-        let handler = steps[at + places::STEP_HANDLER];
-        let code = steps[at + places::STEP_CODE];
-        let value = steps[at + places::STEP_VALUE];
+    for (k, step) in steps.chunks_exact(limits::STEP_WIDTH).enumerate() {
+        let handler = step[places::STEP_HANDLER];
+        let code = step[places::STEP_CODE];
+        let value = step[places::STEP_VALUE];
         let entry = checks::entry_by(table, code);
         let turned = turns::step_formed(words, handler, entry, value);
         put_report(
@@ -95,6 +87,6 @@ pub fn row(
         return Err(Refusal::NoRoom);
     }
     let table = checks::plain_table();
-    take_steps(words, &table, steps, reports, place, count);
+    take_steps(words, &table, steps, reports, place);
     Ok(())
 }
