@@ -2,12 +2,12 @@
 // Internal: called by our crates alone, which show what each function requires. A place's line fits in `limits::LONGEST_LINE` bytes.
 #![tactic(auto)]
 
-ghost use Rattle.std.specs.Prelude.{◌+◌, ◌*◌, ◌≤◌, ◌++◌};
+ghost use Rattle.std.specs.Prelude.{◌+◌, ◌*◌, ◌≤◌, ◌++◌, length};
 ghost use Rattle.limits.specs.Limits.{most_file_bytes, longest_line};
 ghost use Rattle.rules.specs.steps.Replies.{reason_cell};
 ghost use Rattle.replies.specs.Meaning.{reason_is, content_is, outcome_is, refusal_is, reply_is};
 ghost use Rattle.replies.specs.Ends.{end_is};
-ghost use Rattle.text.specs.Bytes.{ascii, decimal};
+ghost use Rattle.text.specs.Bytes.{decimal};
 ghost use Rattle.text.specs.Lies.{farthest};
 ghost use Rattle.text.specs.Pages.{Writes};
 ghost use Rattle.lines.specs.Lines.{line_is};
@@ -32,14 +32,14 @@ pub enum Shown {
     },
 }
 
-// Puts a number and a space behind it.
-fn put_spaced(page: &mut Page<'_>, n: u32)
-    requires { page.old.end ≤ farthest + 64 }
-    ensures puts { Writes (decimal n ++ ascii " ") page.old page.new }
-    ensures upper_bound { page.new.end ≤ page.old.end + 11 }
+// Puts a number and a text behind it.
+fn put_followed(page: &mut Page<'_>, n: u32, behind: &[u8])
+    requires { (page.old.end ≤ farthest + 64) × (length behind.now ≤ 16) }
+    ensures puts { Writes (decimal n ++ behind.now) page.old page.new }
+    ensures upper_bound { page.new.end ≤ page.old.end + length behind.now + 10 }
 {
     page.put_number(n);
-    page.put_text(b" ");
+    page.put_text(behind);
 }
 
 // Puts a refusal.
@@ -124,14 +124,14 @@ fn put_answer(page: &mut Page<'_>, answer: Result<Report, Refusal>)
 }
 
 // Puts the front of a place's line: the place and the handler.
-#[tactic(auto, using(text::proofs::Decimals::widths))]
+#[tactic(auto, using(text::proofs::Decimals::widths), unfolding(crate::specs::Texts::front_text))]
 fn put_start(page: &mut Page<'_>, place: usize, handler: u8)
     requires { (page.old.end ≤ farthest) × (place ≤ most_file_bytes) }
     ensures puts { Writes (front_text place handler) page.old page.new }
     ensures upper_bound { page.new.end ≤ page.old.end + 10 }
 {
-    put_spaced(page, place as u32);
-    put_spaced(page, handler as u32);
+    put_followed(page, place as u32, b" ");
+    put_followed(page, handler as u32, b" ");
 }
 
 // Puts the line of an order place, if it shows one.
@@ -156,7 +156,7 @@ pub fn put_place(page: &mut Page<'_>, place: usize, shown: Shown)
             answer,
         } => {
             put_start(page, place, handler);
-            put_spaced(page, code as u32);
+            put_followed(page, code as u32, b" ");
             put_answer(page, answer);
             page.put_text(b"\n");
         }
@@ -171,10 +171,8 @@ pub fn put_header(page: &mut Page<'_>, handlers: u32, cells: u32)
     ensures upper_bound { page.new.end ≤ page.old.end + 2 * longest_line }
 {
     page.put_text(b"handlers ");
-    page.put_number(handlers);
-    page.put_text(b" cells ");
-    page.put_number(cells);
-    page.put_text(b"\n");
+    put_followed(page, handlers, b" cells ");
+    put_followed(page, cells, b"\n");
 }
 
 // Puts the line of a cell at the end, if there is such a cell.
@@ -186,11 +184,10 @@ pub fn put_cell(page: &mut Page<'_>, c: u32, end: Option<CellEnd>)
 {
     if let Some(CellEnd { content, number }) = end {
         page.put_text(b"cell ");
-        put_spaced(page, c);
+        put_followed(page, c, b" ");
         put_content(page, content);
         page.put_text(b" number ");
-        page.put_number(number);
-        page.put_text(b"\n");
+        put_followed(page, number, b"\n");
     }
 }
 
