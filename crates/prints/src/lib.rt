@@ -55,13 +55,7 @@ fn put_cells(page: &mut Page<'_>, player: Player, words: &[u32], cells: u32)
 
 // Puts what is printed of a sound file: a header, its lines, and its cells where the run did not stop.
 #[tactic(auto, using(schedule::proofs::Nexts::places_few))]
-fn put_run(
-    page: &mut Page<'_>,
-    player: Player,
-    file: &[u8],
-    sizes: Sizes,
-    words: &mut [u32],
-)
+fn put_run(page: &mut Page<'_>, player: Player, file: &[u8], sizes: Sizes, words: &mut [u32])
     requires { (page.old.end ≡ 0) × (sizes.cells ≤ most_cells) }
     ensures puts { Writes (admitted_text (player_is player) file.now words.old (sound sizes.handlers sizes.cells)) page.old page.new }
     ensures upper_bound { page.new.end ≤ most_printed }
