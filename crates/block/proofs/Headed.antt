@@ -1,10 +1,7 @@
 -- A block at a transaction's begin and at its end. It is written from the front: three words, the handler's numbers, and what is
 -- behind them, which leaves the front as it was.
-use Prim.Native.Nat.{ℕ, ◌+◌, ◌*◌, ◌≤◌, ◌<◌}
-use mathlib.Core.Path.{◌≡◌, sym, ap, ◌∙◌}
-use mathlib.Core.List.{List}
-use native.Mathlib.Omega.{arith}
-use lib.ListN.{length, get_or, set}
+use Rattle.std.proofs.Common.{ℕ, ◌+◌, ◌*◌, ◌≤◌, ◌<◌, ◌≡◌, sym, ap, ◌∙◌, List, arith, length, length-set, get_or, set}
+use Rattle.std.proofs.lemmas.Grind.{common_steps}
 use Rattle.rules.specs.steps.Register.{Handler, no_cells, zeros, idle}
 use Rattle.rules.specs.steps.Figure.{begun}
 use Rattle.layout.specs.Places.{handler_long, phase_in, read_set_in, written_set_in, handler_number_in, transaction_from}
@@ -15,7 +12,6 @@ use Rattle.layout.proofs.Rows.{below_inside, below_is, below_beyond}
 use Rattle.layout.proofs.Blocks.{handler_is}
 use Rattle.layout.specs.Rows.{Untouched, below}
 use Rattle.words.specs.Rows.{Changed}
-use Rattle.block.proofs.Stores.{Stored, stored}
 
 -- The block begins with a phase, two empty sets and a table of numbers.
 pub record Headed (m word : ℕ) (table : ℕ → ℕ) (block : List ℕ) : Type 0 where
@@ -34,22 +30,12 @@ pub headed : (m word : ℕ) (block : List ℕ) → length block ≡ handler_long
     → Headed m word (view_handler m block).numbers (with_head word block)
 unfolding view_handler
 headed m word block size = record {
-  size = third.size ∙ second.size ∙ first.size ∙ size;
-  phase = third.other 0 (omega arith) ∙ second.other 0 (omega arith) ∙ first.here;
-  read_set = third.other 1 (omega arith) ∙ second.here;
-  written_set = third.here;
-  numbers = λ y h. third.other (3 + y) (omega arith) ∙ second.other (3 + y) (omega arith) ∙ first.other (3 + y) (omega arith)
-      ∙ sym (below_inside m 0 (handler_number_in block) y h);
+  size = simp length-set size;
+  phase = grind (arith, common_steps);
+  read_set = grind (arith, common_steps);
+  written_set = grind (arith, common_steps);
+  numbers = λ y h. sym (below_inside m 0 (handler_number_in block) y h ∙ grind (arith, common_steps));
 }
-  where
-    first : Stored 0 word block (set block 0 word)
-    first = stored 0 word block (omega arith)
-
-    second : Stored 1 0 (set block 0 word) (set (set block 0 word) 1 0)
-    second = stored 1 0 (set block 0 word) (omega (arith, first.size))
-
-    third : Stored 2 0 (set (set block 0 word) 1 0) (with_head word block)
-    third = stored 2 0 (set (set block 0 word) 1 0) (omega (arith, first.size, second.size))
 
 -- What changes behind the handler's numbers leaves the front.
 headed_still : {m word from long : ℕ} {table : ℕ → ℕ} {block after : List ℕ} → Headed m word table block → 3 + m ≤ from

@@ -1,7 +1,6 @@
 -- For internal contracts alone: what our own functions are called with and leave. Nothing here need be believed.
 -- What the functions over a handler's block require, and a handler that a cell has joined. A row of 32 words stands for a table of numbers.
-use Rattle.std.specs.Prelude.{ℕ, ◌<◌, ◌≤◌, max, ◌≡◌, true, List, length, get_or}
-use Rattle.limits.specs.Limits.{most_number}
+use Rattle.std.specs.Prelude.{ℕ, ◌≤◌, max, ◌≡◌, true, List, length, get_or}
 use Rattle.rules.specs.steps.Tables.{put}
 use Rattle.rules.specs.steps.Register.{Handler}
 use Rattle.layout.specs.Places.{handler_long, phase_in}
@@ -21,10 +20,6 @@ pub record OpenBlock (m : ℕ) (block : List ℕ) : Type 0 where
 -- The table that a row stands for.
 abbrev pub row_table : List ℕ → ℕ → ℕ
 row_table row y = get_or row y 0
-
--- None of the first m numbers of a table is above the most that a number can be.
-abbrev pub Small : ℕ → (ℕ → ℕ) → Type 0
-Small m table = (y : ℕ) → y < m → table y ≤ most_number
 
 -- The handler with its numbers raised to a table's, with cell x in its read set at the table's number, and with a copy of it.
 unfoldable pub joined_with : Handler ℕ → ℕ → ℕ → (ℕ → ℕ) → Handler ℕ

@@ -3,13 +3,12 @@
 #![tactic(auto)]
 
 ghost use Rattle.std.specs.Prelude.{◌≡◌, ◌<◌, ◌≤◌, max};
-ghost use Rattle.limits.specs.Limits.{most_number};
 ghost use Rattle.rules.specs.steps.Register.{idle};
 ghost use Rattle.rules.specs.steps.Figure.{begun, wrote};
 ghost use Rattle.layout.specs.Places.{transaction_from, transaction_number_in};
 ghost use Rattle.layout.specs.View.{word_setting, view_handler, pour_handler};
 ghost use Rattle.words.specs.Rows.{Changed};
-ghost use Rattle.block.specs.Blocks.{Block, OpenBlock, row_table, Small, joined_with};
+ghost use Rattle.block.specs.Blocks.{Block, OpenBlock, row_table, joined_with};
 
 // Phase 1, both sets empty, the transaction's numbers become the handler's, copies 0.
 pub fn begin(block: &mut [u32], m: usize)
@@ -35,34 +34,21 @@ pub fn write(block: &mut [u32], m: usize, x: usize, value: u32)
     block[places::WRITTEN_SET] = words::with_cell(written, x);
 }
 
-// The larger of two numbers. They are compared as signed words, which says the same of numbers this small: a processor that compares
-// several words at once often compares signed ones only.
-fn larger(held: u32, number: u32) -> u32
-    requires { (held ≤ most_number) × (number ≤ most_number) }
-    ensures { result ≡ max held number }
-{
-    if (held as i32) < (number as i32) {
-        number
-    } else {
-        held
-    }
-}
-
 // Each number of the transaction is raised to that of the row, where that one is larger.
 fn raise(block: &mut [u32], m: usize, numbers: &[u32; limits::ROW])
-    requires { Block m block.old × Small m (transaction_number_in m block.old) × Small m (row_table numbers.now) }
+    requires { Block m block.old }
     ensures { Changed (transaction_from m) m (λ y. max (transaction_number_in m block.old y) (row_table numbers.now y))
         block.old block.new }
 {
     let transaction = places::transaction_numbers(m);
-    for y in 0..m {
-        block[transaction + y] = larger(block[transaction + y], numbers[y]);
+    for (y, number) in numbers[..m].iter().enumerate() {
+        block[transaction + y] = block[transaction + y].max(*number);
     }
 }
 
 // All numbers of the transaction are raised to a cell's, cell x joins the read set at its own, and the copy becomes its value.
 pub fn join(block: &mut [u32], m: usize, x: usize, value: u32, numbers: &[u32; limits::ROW])
-    requires { OpenBlock m block.old × (x < m) × Small m (row_table numbers.now) }
+    requires { OpenBlock m block.old × (x < m) }
     ensures { block.new ≡ pour_handler m (joined_with (view_handler m block.old) x value (row_table numbers.now)) }
 {
     let transaction = places::transaction_numbers(m);

@@ -1,9 +1,9 @@
 -- What is promised of a step code's kind, of the table and the entries that say it, and of what the checks of a step say.
-use Rattle.std.specs.Prelude.{ℕ, List, get_or}
-use Rattle.std.proofs.Math.Option.{Option}
+use Rattle.std.specs.Prelude.{ℕ, List, get_or, Result, Ok, Err}
+use Rattle.std.proofs.Math.Option.{Option, none, some}
 use Rattle.rules.specs.Promise.{Promise, answering}
-use Rattle.rules.specs.steps.Codes.{Kind, Sheet, plain_sheet}
-use Rattle.rules.specs.steps.Replies.{Refusal}
+use Rattle.rules.specs.steps.Codes.{Step, Kind, known, unknown, Sheet, plain_sheet}
+use Rattle.rules.specs.steps.Replies.{Refusal, unknown_step}
 use Rattle.rules.specs.steps.Checks.{Asked, first_hit, step_checks}
 use Rattle.checks.specs.Entries.{entry_of, table_of, entry_says}
 
@@ -27,6 +27,12 @@ SaysPromise entry kind = Promise (answering entry_says) entry kind tt
 abbrev pub KindPromise : ℕ → Kind → Type 0
 KindPromise code kind = Promise (answering plain_sheet) code kind tt
 
--- The promise of the checks of a step: what the first that holds says.
-abbrev pub VerdictPromise : Asked → Option Refusal → Type 0
-VerdictPromise asked verdict = Promise (answering (λ a. first_hit (step_checks a))) asked verdict tt
+-- What the checks come to: what the first that holds says, and where none does the step that the kind is. An unknown kind is none.
+abbrev pub verdict : Option Refusal → Kind → Result Step Refusal
+verdict (some refusal) kind = Err refusal
+verdict none (known step) = Ok step
+verdict none unknown = Err unknown_step
+
+-- The promise of the checks of a step: what they come to.
+abbrev pub VerdictPromise : Asked → Result Step Refusal → Type 0
+VerdictPromise asked answer = Promise (answering (λ a. verdict (first_hit (step_checks a)) a.kind)) asked answer tt

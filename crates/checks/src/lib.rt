@@ -10,7 +10,7 @@ ghost use Rattle.rules.specs.steps.Checks.{asking};
 ghost use Rattle.checks.specs.Meaning.{kind_is, verdict_is};
 ghost use Rattle.checks.specs.Promises.{LookupPromise, EntryPromise, SaysPromise, KindPromise, VerdictPromise};
 
-use crate::kinds::{is_begin, is_beyond, is_unknown};
+use crate::kinds::{is_begin, is_beyond};
 use crate::sheet::UNKNOWN;
 use replies::Refusal;
 pub use sheet::plain_table;
@@ -18,22 +18,14 @@ pub use sheet::plain_table;
 // How many step codes there are, each with an entry in a table.
 pub const CODES: usize = 256;
 
-// What a step code stands for. In the entries of a table the kinds are numbered in this order, from 0 on.
-#[derive(Clone, Copy)]
-pub enum Kind {
-    Unknown,
+// What a step code asks for. In the entries of a table the steps are numbered in this order, from 1 on; 0 is that of no step.
+#[derive(Clone, Copy, Debug, PartialEq, Eq)]
+pub enum Step {
     Begin,
     Try,
     GiveUp,
     Read(usize),
     Write(usize),
-}
-
-// What the checks of a step say.
-#[derive(Clone, Copy)]
-pub enum Verdict {
-    Passes,
-    Refuses(Refusal),
 }
 
 // The entry of a step code in a table, and that of no step where the code is outside of it.
@@ -54,50 +46,58 @@ pub fn entry_of(code: u32) -> u8
     entry_by(&plain_table(), code)
 }
 
-// The kind that an entry says.
-pub fn kind_in(entry: u8) -> Kind
+// The kind that an entry says: its step, if it is that of one.
+pub fn kind_in(entry: u8) -> Option<Step>
     ensures { SaysPromise entry (kind_is result) }
 {
     let cell = (entry % 32) as usize;
     match entry / 32 {
-        1 => Kind::Begin,
-        2 => Kind::Try,
-        3 => Kind::GiveUp,
-        4 => Kind::Read(cell),
-        5 => Kind::Write(cell),
-        _ => Kind::Unknown,
+        1 => Some(Step::Begin),
+        2 => Some(Step::Try),
+        3 => Some(Step::GiveUp),
+        4 => Some(Step::Read(cell)),
+        5 => Some(Step::Write(cell)),
+        _ => None,
     }
 }
 
-// The kind of a step code.
-pub fn kind_of(code: u32) -> Kind
+// The kind of a step code: the step that it stands for, if it stands for one.
+pub fn kind_of(code: u32) -> Option<Step>
     ensures { KindPromise code (kind_is result) }
 {
     kind_in(entry_of(code))
 }
 
-// What the checks say of a step where there are m cells and n handlers, in their order: 15, 11, 12, then 13 or 14.
-// Only 10 goes before them, and it is for whoever has words to look at.
-pub fn verdict_of(m: usize, n: u32, handler: u32, kind: Kind, opened: bool) -> Verdict
+// What the checks say of a step where there are m cells and n handlers, in their order: 15, 11, 12, then 13 or 14. What passes them is the
+// step itself, so that none that is refused can be taken. Only 10 goes before them, and it is for whoever has words to look at.
+pub fn verdict_of(
+    m: usize,
+    n: u32,
+    handler: u32,
+    kind: Option<Step>,
+    opened: bool,
+) -> Result<Step, Refusal>
     ensures { VerdictPromise (asking true m n handler (kind_is kind) opened) (verdict_is result) }
 {
-    if is_unknown(kind) {
-        return Verdict::Refuses(Refusal::UnknownStep);
-    }
+    let Some(step) = kind else {
+        return Err(Refusal::UnknownStep);
+    };
     if n <= handler {
-        return Verdict::Refuses(Refusal::NoHandler);
+        return Err(Refusal::NoHandler);
     }
-    if is_beyond(kind, m) {
-        return Verdict::Refuses(Refusal::NoCell);
+    if is_beyond(step, m) {
+        return Err(Refusal::NoCell);
     }
-    if is_begin(kind) {
-        if opened {
-            return Verdict::Refuses(Refusal::AlreadyOpen);
-        }
-        return Verdict::Passes;
+    if is_begin(step) {
+        return if opened {
+            Err(Refusal::AlreadyOpen)
+        } else {
+            Ok(step)
+        };
     }
     if opened {
-        return Verdict::Passes;
+        Ok(step)
+    } else {
+        Err(Refusal::NotOpen)
     }
-    Verdict::Refuses(Refusal::NotOpen)
 }

@@ -15,10 +15,7 @@ fn print_page<W: Write>(rt: &HostRuntime, output: &mut W) -> Result<(), Failed>
 {
     let mut page = [0u8; manual::PAGE_BYTES];
     let long = manual::put_codes(&mut page);
-    if !filters::write_front(rt, output, &page, long) {
-        return Err(Failed::NotWritten);
-    }
-    Ok(())
+    filters::write_front(rt, output, &page, long)
 }
 
 // Prints the page on standard output.

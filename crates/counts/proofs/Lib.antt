@@ -1,4 +1,3 @@
--- Laws of the columns of a handler's counts, the table computed, and what the walks by hand share.
+-- Laws of the columns of a handler's counts, and the table computed.
 pub mod Columns
 pub mod Table
-mod Values

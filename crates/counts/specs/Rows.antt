@@ -1,9 +1,12 @@
--- One handler's counts as the code holds them, column by column: the column that is raised, and counts brought up to date.
+-- One handler's counts as the code holds them, column by column: the count that is raised, and counts brought up to date.
 -- For internal contracts alone.
-use Rattle.std.specs.Prelude.{ℕ, ◌+◌, ◌<◌, ◌≡◌, List, [], ◌∷◌, get_or, eqb, if◌then◌else◌}
-use Rattle.std.proofs.Math.Option.{Option}
+use Rattle.std.specs.Prelude.{ℕ, ◌+◌, ◌<◌, ◌≡◌, List, [], ◌∷◌, get_or, Option, None, Some}
+use Rattle.std.proofs.Math.Option as Math
 use Rattle.counts.specs.declared.Counts.{Counts}
-use Rattle.counts.specs.Counting.{Count, is_in, adds}
+use Rattle.counts.specs.declared.Count.{Count}
+use Rattle.counts.specs.declared.Count.TheVariants.{Begun, Committed, Torn, Overtaken, Spent, GaveUp}
+use Rattle.counts.specs.Counting as Counting
+use Rattle.counts.specs.Counting.{begun, committed, torn, overtaken, spent, gave_up, adds}
 
 -- The counts in the order of their columns.
 abbrev pub row_of : Counts → List ℕ
@@ -13,24 +16,18 @@ row_of counts = counts.begun ∷ counts.committed ∷ counts.torn ∷ counts.ove
 abbrev pub in_column : Counts → ℕ → ℕ
 in_column counts k = get_or (row_of counts) k 0
 
--- The column is that of the count that is raised, and none of the six where none is.
-pub record RaisedAt (raised : Option Count) (at : ℕ) : Type 0 where
-  pub shown : (k : ℕ) → k < 6 → eqb at k ≡ is_in k raised
-
--- What a column adds to the count in column k: 1 where they are the same.
-abbrev pub one_at : ℕ → ℕ → ℕ
-one_at at k = if eqb at k then 1 else 0
-
--- The number is what a column adds to the count in column k.
-pub record AddedAt (at k one : ℕ) : Type 0 where
-  pub is : one ≡ one_at at k
-
--- The count in a column is one higher than before, and the others are as they were.
-pub record RaisedIn (at : ℕ) (before after : Counts) : Type 0 where
-  pub raises : (k : ℕ) → k < 6 → in_column after k ≡ in_column before k + one_at at k
+-- The count that the code raises, as the table has it.
+abbrev pub count_is : Option Count → Math.Option Counting.Count
+count_is None = Math.none
+count_is (Some Begun) = Math.some begun
+count_is (Some Committed) = Math.some committed
+count_is (Some Torn) = Math.some torn
+count_is (Some Overtaken) = Math.some overtaken
+count_is (Some Spent) = Math.some spent
+count_is (Some GaveUp) = Math.some gave_up
 
 -- The count that is raised is one higher than before, and the others are as they were.
-pub record BroughtUp (raised : Option Count) (before after : Counts) : Type 0 where
+pub record BroughtUp (raised : Math.Option Counting.Count) (before after : Counts) : Type 0 where
   pub raises : (k : ℕ) → k < 6 → in_column after k ≡ in_column before k + adds raised k
 
 -- Each count can be raised.

@@ -2,18 +2,17 @@
 // they stand. Internal: called by `sheets` alone.
 #![tactic(auto)]
 
+ghost use Rattle.std.specs.Prelude.{◌≡◌};
 ghost use Rattle.rules.specs.steps.Codes.{plain_sheet};
-ghost use Rattle.rules.specs.steps.Replies as Rules;
 ghost use Rattle.replies.specs.Meaning.{outcome_is, reply_is};
-ghost use Rattle.checks.specs.Meaning.{kind_is};
 ghost use Rattle.counts.specs.Counting.{raised, raised_by};
-ghost use Rattle.counts.specs.Rows.{RaisedAt, AddedAt, RaisedIn, BroughtUp, Room};
+ghost use Rattle.counts.specs.Rows.{count_is, BroughtUp, Room};
 
-use checks::{Kind, kind_of};
-use replies::{Answer, Outcome, Reason};
+use checks::{Step, kind_of};
+use replies::{Outcome, Reason, Refusal, Report};
 
 // One handler's counts.
-#[derive(Clone, Copy)]
+#[derive(Clone, Copy, Debug, PartialEq, Eq)]
 pub struct Counts {
     pub begun: u32,
     pub committed: u32,
@@ -23,89 +22,94 @@ pub struct Counts {
     pub given_up: u32,
 }
 
-// Where no count is raised: a column beyond the last.
-const NO_COLUMN: usize = 6;
-
-// The column of the count that a step raises by being done: a begin's alone.
-fn done_column(kind: Kind) -> usize
-    ensures { RaisedAt (raised_by (kind_is kind) Rules.ok) result }
-{
-    match kind {
-        Kind::Begin => 0,
-        Kind::Try => NO_COLUMN,
-        Kind::GiveUp => NO_COLUMN,
-        Kind::Read(_) => NO_COLUMN,
-        Kind::Write(_) => NO_COLUMN,
-        Kind::Unknown => NO_COLUMN,
-    }
+// The counts of a handler, each by its name.
+#[derive(Clone, Copy, Debug, PartialEq, Eq)]
+enum Count {
+    Begun,
+    Committed,
+    Torn,
+    Overtaken,
+    Spent,
+    GaveUp,
 }
 
-// The column of the count that an outcome raises: a reason has its own. What the code stands for is looked up only where it decides.
-fn outcome_column(code: u32, outcome: Outcome) -> usize
-    ensures { RaisedAt (raised_by (plain_sheet code) (outcome_is outcome)) result }
+// The count that an outcome raises: a reason has its own, and of steps that are done a begin alone. What the code stands for is looked up
+// only where it decides.
+#[tactic(auto, unfolding(crate::specs::Counting::raised_by))]
+fn raised_by(code: u32, outcome: Outcome) -> Option<Count>
+    ensures { count_is result ≡ raised_by (plain_sheet code) (outcome_is outcome) }
 {
     match outcome {
-        Outcome::Done => done_column(kind_of(code)),
-        Outcome::Shows(_) => NO_COLUMN,
-        Outcome::Committed => 1,
-        Outcome::Aborted(reason) => match reason {
-            Reason::Torn(_) => 2,
-            Reason::Overtaken(_) => 3,
-            Reason::Spent(_) => 4,
-            Reason::GaveUp => 5,
+        Outcome::Done => match kind_of(code) {
+            Some(Step::Begin) => Some(Count::Begun),
+            _ => None,
         },
+        Outcome::Shows(_) => None,
+        Outcome::Committed => Some(Count::Committed),
+        Outcome::Aborted(Reason::Torn(_)) => Some(Count::Torn),
+        Outcome::Aborted(Reason::Overtaken(_)) => Some(Count::Overtaken),
+        Outcome::Aborted(Reason::Spent(_)) => Some(Count::Spent),
+        Outcome::Aborted(Reason::GaveUp) => Some(Count::GaveUp),
     }
 }
 
-// The column of the count that an answer to a step code raises.
-fn raised_column(code: u32, answer: Answer) -> usize
-    ensures { RaisedAt (raised code (reply_is answer)) result }
+// The count that an answer to a step code raises.
+#[tactic(auto, unfolding(crate::specs::Counting::raised))]
+fn raised(code: u32, answer: Result<Report, Refusal>) -> Option<Count>
+    ensures { count_is result ≡ raised code (reply_is answer) }
 {
     match answer {
-        Answer::Reported(report) => {
-            let outcome = report.outcome;
-            outcome_column(code, outcome)
-        }
-        Answer::Refused(_) => NO_COLUMN,
+        Ok(report) => raised_by(code, report.outcome),
+        Err(_) => None,
     }
 }
 
-// What a column adds to the count in column k.
-fn one_at(column: usize, k: usize) -> u32
-    ensures { AddedAt column k result }
-{
-    if column == k {
-        return 1;
-    }
-    0
-}
-
-// The counts with the one in a column raised.
-fn with_raised(counts: Counts, column: usize) -> Counts
+// The counts with one of them raised, if one is.
+#[tactic(auto, using(crate::proofs::Columns::brought_up_by), unfolding(crate::specs::Counting::is_in))]
+fn with_raised(counts: Counts, raised: Option<Count>) -> Counts
     requires { Room counts }
-    ensures { RaisedIn column counts result }
+    ensures { BroughtUp (count_is raised) counts result }
 {
-    Counts {
-        begun: counts.begun + one_at(column, 0),
-        committed: counts.committed + one_at(column, 1),
-        torn: counts.torn + one_at(column, 2),
-        overtaken: counts.overtaken + one_at(column, 3),
-        spent: counts.spent + one_at(column, 4),
-        given_up: counts.given_up + one_at(column, 5),
+    match raised {
+        Some(Count::Begun) => Counts {
+            begun: counts.begun + 1,
+            ..counts
+        },
+        Some(Count::Committed) => Counts {
+            committed: counts.committed + 1,
+            ..counts
+        },
+        Some(Count::Torn) => Counts {
+            torn: counts.torn + 1,
+            ..counts
+        },
+        Some(Count::Overtaken) => Counts {
+            overtaken: counts.overtaken + 1,
+            ..counts
+        },
+        Some(Count::Spent) => Counts {
+            spent: counts.spent + 1,
+            ..counts
+        },
+        Some(Count::GaveUp) => Counts {
+            given_up: counts.given_up + 1,
+            ..counts
+        },
+        None => counts,
     }
 }
 
 // The counts brought up to date with an answer to a step code.
-pub fn brought_up(counts: Counts, code: u32, answer: Answer) -> Counts
+pub fn brought_up(counts: Counts, code: u32, answer: Result<Report, Refusal>) -> Counts
     requires { Room counts }
     ensures { BroughtUp (raised code (reply_is answer)) counts result }
 {
-    with_raised(counts, raised_column(code, answer))
+    with_raised(counts, raised(code, answer))
 }
 
 // Brings one handler's counts up to date where they stand. It stores what the by-value update returns, so that all there is to prove of
 // counts is proved of values.
-pub fn bring_up(counts: &mut Counts, code: u32, answer: Answer)
+pub fn bring_up(counts: &mut Counts, code: u32, answer: Result<Report, Refusal>)
     requires { Room counts.old }
     ensures { BroughtUp (raised code (reply_is answer)) counts.old counts.new }
 {
@@ -113,7 +117,7 @@ pub fn bring_up(counts: &mut Counts, code: u32, answer: Answer)
 }
 
 // The counts brought up to date, lent for it. Its callers hold no reference, so the check follows their code by itself.
-pub fn kept_up(counts: Counts, code: u32, answer: Answer) -> Counts
+pub fn kept_up(counts: Counts, code: u32, answer: Result<Report, Refusal>) -> Counts
     requires { Room counts }
     ensures { BroughtUp (raised code (reply_is answer)) counts result }
 {

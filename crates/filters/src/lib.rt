@@ -3,10 +3,12 @@
 // these say which were read and written. Internal: called by our programs alone.
 #![tactic(auto)]
 
-ghost use Rattle.std.specs.Prelude.{◌≡◌, ◌<◌, ◌≤◌, length, take, IsTrue, IfSome};
+ghost use Rattle.std.specs.Prelude.{◌≡◌, ◌<◌, ◌≤◌, length, take, IfSome, IfOk, IfErr, OnOk};
 ghost use Rattle.std.specs.Io.KnownBytes.{Appends, Consumes, IsAtEnd};
 ghost use Rattle.io.specs.Counts.{IsPrefixLen};
 ghost use Rattle.limits.specs.Limits.{most_printed};
+ghost use Rattle.filters.specs.declared.Failed.TheVariants.{NotRead, NotWritten};
+ghost use Rattle.filters.specs.Readings.{count_read};
 
 use std::fmt::Display;
 use std::io::{Read, Write};
@@ -14,18 +16,26 @@ use std::io::{Read, Write};
 // As many bytes as are read of a file: one more than it may have, so that a file that is too long is noticed.
 pub const MOST_READ: usize = limits::MOST_FILE_BYTES + 1;
 
-// What was read: how many bytes stand at the start of the buffer, and whether no read failed.
-#[derive(Clone, Copy)]
-pub struct Reading {
-    pub count: usize,
-    pub whole: bool,
-}
-
 // What failed of reading a file and writing a text of it; why, is said on standard error by then.
-#[derive(Clone, Copy)]
+#[derive(Clone, Copy, Debug, PartialEq, Eq)]
 pub enum Failed {
     NotRead,
     NotWritten,
+}
+
+// A read that failed, and how many bytes stood at the start of the buffer by then.
+#[derive(Clone, Copy, Debug, PartialEq, Eq)]
+pub struct CutShort {
+    pub count: usize,
+}
+
+impl From<CutShort> for Failed {
+    ghost from_gives = { λ cut failed. failed ≡ NotRead };
+
+    // Of a file that was not read to its end, that is said.
+    fn from(_cut: CutShort) -> Failed {
+        Failed::NotRead
+    }
 }
 
 // Says on standard error what failed, and why. That this fails too can't be said anywhere.
@@ -35,64 +45,81 @@ pub fn say<D: Display + Drop>(rt: &HostRuntime, name: &[u8], why: D) {
 }
 
 // One read into a part of a buffer. Where it fails, that is said under the file's name.
-fn read_some<R: Read>(rt: &HostRuntime, input: &mut R, name: &[u8], part: &mut [u8]) -> Reading
-    ensures count { IsPrefixLen result.count part.new }
-    ensures bytes { Consumes (R.remaining input.old) (R.remaining input.new) (take result.count part.new) }
-    ensures end { IsTrue result.whole → result.count ≡ 0 → 0 < length part.new → IsAtEnd (R.remaining input.new) }
+fn read_some<R: Read>(
+    rt: &HostRuntime,
+    input: &mut R,
+    name: &[u8],
+    part: &mut [u8],
+) -> Result<usize, CutShort>
+    ensures count { IsPrefixLen (count_read result) part.new }
+    ensures bytes { Consumes (R.remaining input.old) (R.remaining input.new) (take (count_read result) part.new) }
+    ensures end { IfOk result (λ count. count ≡ 0 → 0 < length part.new → IsAtEnd (R.remaining input.new)) }
+    ensures cut { IfErr result (λ cut. cut.count ≡ 0) }
 {
     match input.read(part) {
-        Ok(count) => Reading { count, whole: true },
+        Ok(count) => Ok(count),
         Err(error) => {
             say(rt, name, error);
-            Reading {
-                count: 0,
-                whole: false,
-            }
+            Err(CutShort { count: 0 })
         }
     }
 }
 
 // Reads a file to its end, or until the buffer is full; a read that fails ends it too, and is said under the file's name.
-pub fn read_from<R: Read>(rt: &HostRuntime, input: &mut R, name: &[u8], file: &mut [u8]) -> Reading
-    ensures count { IsPrefixLen result.count file.new }
-    ensures bytes { Consumes (R.remaining input.old) (R.remaining input.new) (take result.count file.new) }
-    ensures front { IsTrue result.whole → IfSome (R.remaining input.old)
-        (λ bytes. take result.count file.new ≡ take (length file.new) bytes) }
+pub fn read_from<R: Read>(
+    rt: &HostRuntime,
+    input: &mut R,
+    name: &[u8],
+    file: &mut [u8],
+) -> Result<usize, CutShort>
+    ensures count { IsPrefixLen (count_read result) file.new }
+    ensures bytes { Consumes (R.remaining input.old) (R.remaining input.new) (take (count_read result) file.new) }
+    ensures front { IfOk result (λ count. IfSome (R.remaining input.old)
+        (λ bytes. take count file.new ≡ take (length file.new) bytes)) }
 {
     let mut count = 0;
-    let mut whole = true;
     while count < file.len() {
-        let reading = read_some(rt, input, name, &mut file[count..]);
-        whole = reading.whole;
-        let more = reading.count;
+        let Ok(more) = read_some(rt, input, name, &mut file[count..]) else {
+            return Err(CutShort { count });
+        };
         if more == 0 {
             break;
         }
         count += more;
     }
-    Reading { count, whole }
+    Ok(count)
 }
 
 // Reads standard input, or what stands for it.
-pub fn read_file<R: Read>(rt: &HostRuntime, input: &mut R, file: &mut [u8]) -> Reading
-    ensures count { IsPrefixLen result.count file.new }
-    ensures bytes { Consumes (R.remaining input.old) (R.remaining input.new) (take result.count file.new) }
-    ensures front { IsTrue result.whole → IfSome (R.remaining input.old)
-        (λ bytes. take result.count file.new ≡ take (length file.new) bytes) }
+pub fn read_file<R: Read>(
+    rt: &HostRuntime,
+    input: &mut R,
+    file: &mut [u8],
+) -> Result<usize, CutShort>
+    ensures count { IsPrefixLen (count_read result) file.new }
+    ensures bytes { Consumes (R.remaining input.old) (R.remaining input.new) (take (count_read result) file.new) }
+    ensures front { IfOk result (λ count. IfSome (R.remaining input.old)
+        (λ bytes. take count file.new ≡ take (length file.new) bytes)) }
 {
     read_from(rt, input, b"standard input", file)
 }
 
-// Writes the front of a buffer to standard output, or what stands for it, and says so if that fails; whether it did not fail.
-pub fn write_front<W: Write>(rt: &HostRuntime, output: &mut W, buffer: &[u8], long: usize) -> bool
+// Writes the front of a buffer to standard output, or what stands for it, and says so if that fails.
+pub fn write_front<W: Write>(
+    rt: &HostRuntime,
+    output: &mut W,
+    buffer: &[u8],
+    long: usize,
+) -> Result<(), Failed>
     requires { long ≤ length buffer.now }
-    ensures { IsTrue result → Appends (W.contents output.old) (W.contents output.new) (take long buffer.now) }
+    ensures written { OnOk result (Appends (W.contents output.old) (W.contents output.new) (take long buffer.now)) }
+    ensures failed { IfErr result (λ failed. failed ≡ NotWritten) }
 {
     match output.write_all(&buffer[..long]) {
-        Ok(()) => true,
+        Ok(()) => Ok(()),
         Err(error) => {
             say(rt, b"standard output", error);
-            false
+            Err(Failed::NotWritten)
         }
     }
 }
@@ -167,8 +194,12 @@ mod tests {
             let mut file = [0u8; 8];
             let mut pieces = Pieces { reads, fails };
             let reading = read_from(&rt, &mut pieces, b"pieces", &mut file);
-            assert_eq!(rt; reading.count, count, "after {reads} reads");
-            assert_eq!(rt; reading.whole, whole, "after {reads} reads");
+            let expected = if whole {
+                Ok(count)
+            } else {
+                Err(CutShort { count })
+            };
+            assert_eq!(rt; reading, expected, "after {reads} reads");
         }
     }
 
@@ -178,7 +209,7 @@ mod tests {
         for (writes, written) in [(0, false), (2, false), (3, true)] {
             let mut narrow = Narrow { writes };
             assert_eq!(rt;
-                write_front(&rt, &mut narrow, b"123456", 5),
+                write_front(&rt, &mut narrow, b"123456", 5).is_ok(),
                 written,
                 "after {writes} writes"
             );

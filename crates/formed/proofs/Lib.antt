@@ -1,5 +1,4 @@
--- Laws of faults, of walks over rows, and of what is answered.
-pub mod Gathers
-pub mod Walks
+-- Laws of bits, of what is looked at, and of what is answered.
+pub mod Bits
 pub mod Parts
 pub mod Answers

@@ -1,2 +1,2 @@
--- What the test of words gathers.
-pub mod Faults
+-- What the test of words looks at.
+pub mod Seen

@@ -1,15 +1,16 @@
-// Whether words are a register. Faults are gathered over whole rows and looked at once, so that a row needs no early exit.
+// Whether words are a register. The bits of all numbers are laid over each other and looked at once, so that a row needs no early exit.
 // Internal: called by our crates alone, which show what each function requires.
 #![tactic(auto)]
 
-ghost use Rattle.std.specs.Prelude.{◌≡◌, ◌↔◌, ℕ, ◌*◌, ◌≤◌, ◌<◌, length};
+ghost use Rattle.std.specs.Prelude.{◌≡◌, ◌↔◌, ℕ, ◌≤◌, ◌<◌, length, IsTrue};
 ghost use Rattle.limits.specs.Limits.{most_cells, most_handlers, most_number};
 ghost use Rattle.layout.specs.Places.{body_long, handler_long, cell_part, handler_part, number_in};
 ghost use Rattle.layout.specs.WellFormed.{is_good_body, is_well_formed};
-ghost use Rattle.formed.specs.Faults.{Faults, Fit, SpanFits, NumbersFit, GoodFront, front_most};
+ghost use Rattle.formed.specs.Seen.{Fit, SpanFits, GoodFront, BlocksSeen};
 
 // Bits with the words of two tables, from a place to another, laid over them: at most 65,535 exactly where the bits and all those
-// words are. Two tables make half as many turns as one.
+// words are. Two tables make half as many turns as one; one place for both is kept since two slices zipped cost a small register's test
+// an eighth more.
 fn span_bits(bits: u32, first: &[u32], second: &[u32], from: usize, to: usize) -> u32
     requires { (from ≤ to) × (to ≤ length first.now) × (to ≤ length second.now) }
     ensures { (result ≤ most_number) ↔ ((bits ≤ most_number) × SpanFits first.now second.now from to) }
@@ -27,72 +28,50 @@ fn cells_bits(bits: u32, body: &[u32], m: usize) -> u32
     requires { (m ≤ most_cells) × (body_long m 0 ≤ length body.now) }
     ensures { (result ≤ most_number) ↔ ((bits ≤ most_number) × ((c : ℕ) → c < m → Fit m (number_in (cell_part m body.now c)))) }
 {
-    let cell = places::cell_at(m, 0);
     let middle = places::cell_at(m, m / 2);
-    let block = places::block_at(m, 0);
-    let ahead = middle.start;
-    let end = block.start - ahead;
+    let beside = &body[middle.start..];
     let mut over = bits;
-    let mut at = cell.start;
-    while at < end {
-        let next = at + cell.end;
-        over = span_bits(over, body, &body[ahead..], at + places::NUMBERS, next);
-        at = next;
+    for c in 0..(m + 1) / 2 {
+        let cell = places::cell_at(m, c);
+        over = span_bits(over, body, beside, cell.start + places::NUMBERS, cell.end);
     }
     over
 }
 
-// The fault of a word: 1 where it lies above the most that it can be.
-fn word_fault(word: u32, most: u32) -> u32
-    ensures { Faults 1 (word ≤ most) result }
-{
-    if most < word { 1 } else { 0 }
-}
-
-// The faults in front of a block's numbers: those of its phase and of its two sets.
-fn front_faults(block: &[u32], m: usize, last: u32) -> u64
+// Whether all is well in front of a block's numbers: its phase is not above the last one, and its two sets have no cell that is not there.
+#[tactic(auto, using(crate::proofs::Parts::front_good))]
+fn good_front(block: &[u32], m: usize, last: u32) -> bool
     requires { (length block.now ≡ handler_long m) × (m ≤ most_cells) }
-    ensures { Faults front_most (GoodFront last m block.now) result }
+    ensures { IsTrue result ↔ GoodFront last m block.now }
 {
-    let phase = word_fault(block[places::PHASE], last);
-    let sets = ((block[places::READ_SET] | block[places::WRITTEN_SET]) as u64) >> m;
-    (phase as u64) + sets
+    let sets = block[places::READ_SET] | block[places::WRITTEN_SET];
+    block[places::PHASE] <= last && (sets as u64) >> m == 0
 }
 
-// What is seen of all handlers: the bits of their numbers, and the faults in front of these.
-#[derive(Clone, Copy)]
-struct Seen {
-    bits: u32,
-    faults: u64,
-}
-
-// Sees all handlers. A handler's numbers are looked at beside those of its transaction.
-fn blocks_seen(body: &[u32], m: usize, n: usize, last: u32) -> Seen
+// The bits of the numbers of all handlers; nothing where the front of a block is not good. A handler's numbers are looked at beside those
+// of its transaction, and the front behind them: with a way out in front of them the largest register's test costs a tenth more.
+fn blocks_bits(body: &[u32], m: usize, n: usize, last: u32) -> Option<u32>
     requires { (m ≤ most_cells) × (n ≤ most_handlers) × (body_long m n ≤ length body.now) }
-    ensures { ((result.bits ≤ most_number) ↔ ((i : ℕ) → i < n → NumbersFit m (handler_part m body.now i)))
-        × Faults (most_handlers * front_most) ((i : ℕ) → i < n → GoodFront last m (handler_part m body.now i)) result.faults }
+    ensures { BlocksSeen last m n body.now result }
 {
-    let block = places::block_at(m, 0);
-    let long = block.end - block.start;
+    let first = places::block_at(m, 0);
     let behind = places::transaction_numbers(m);
     let ahead = behind - places::HANDLER_NUMBERS;
-    let end = places::body_words(m, n);
-    let mut bits = 0u32;
-    let mut faults = 0u64;
-    let mut at = block.start;
-    while at < end {
-        let next = at + long;
+    let blocks = &body[first.start..places::body_words(m, n)];
+    let mut bits = 0;
+    for block in blocks.chunks_exact(first.end - first.start) {
         bits = span_bits(
             bits,
-            body,
-            &body[ahead..],
-            at + places::HANDLER_NUMBERS,
-            at + behind,
+            block,
+            &block[ahead..],
+            places::HANDLER_NUMBERS,
+            behind,
         );
-        faults = faults + front_faults(&body[at..next], m, last);
-        at = next;
+        if !good_front(block, m, last) {
+            return None;
+        }
     }
-    Seen { bits, faults }
+    Some(bits)
 }
 
 // Whether a body of m cells and n handlers is good, with no phase above the last one.
@@ -100,13 +79,13 @@ pub fn good_body(body: &[u32], m: usize, n: usize, last: u32) -> bool
     requires { (m ≤ most_cells) × (n ≤ most_handlers) }
     ensures { result ≡ is_good_body last m n body.now }
 {
-    let need = places::body_words(m, n);
-    if body.len() < need {
+    if body.len() < places::body_words(m, n) {
         return false;
     }
-    let blocks = blocks_seen(body, m, n, last);
-    let numbers = word_fault(cells_bits(blocks.bits, body, m), limits::MOST_NUMBER);
-    blocks.faults + (numbers as u64) == 0
+    match blocks_bits(body, m, n, last) {
+        Some(bits) => cells_bits(bits, body, m) <= limits::MOST_NUMBER,
+        None => false,
+    }
 }
 
 // Whether the words are a well-formed register.

@@ -4,13 +4,12 @@
 
 ghost use Rattle.std.specs.Prelude.{◌≡◌, ◌+◌, ◌*◌, ◌^◌, ◌≤◌};
 ghost use Rattle.prints.specs.Printed.{RunPromise, JudgedRunPromise};
-ghost use Rattle.replies.specs.Meaning.{reply_is};
-ghost use Rattle.gateway.specs.Packed.{reply_number, LengthNumber, OpeningNumber, StepNumber, SheetNumber, RowNumber};
+ghost use Rattle.replies.specs.Meaning.{reply_is, opening_is};
+ghost use Rattle.rows.specs.Meaning.{rowed_is};
+ghost use Rattle.sheets.specs.Meaning.{added_is};
+ghost use Rattle.gateway.specs.Packed.{reply_number, opening_number, refused_number, LengthNumber, OpeningNumber, StepNumber, SheetNumber, RowNumber};
 
-use register::Needed;
-use replies::{Answer, Opened};
-use rows::Rowed;
-use sheets::Added;
+use replies::{Refusal, Report};
 
 // The words that a register of m cells and n handlers needs; 0 where m or n is out of range.
 #[unsafe(no_mangle)]
@@ -18,9 +17,18 @@ pub extern "C" fn zidlemowo_length(m: u32, n: u32) -> u32
     ensures { LengthNumber m n result }
 {
     match register::words_needed(m, n) {
-        Needed::Words(count) => count as u32,
-        Needed::Nothing => 0,
+        Some(count) => count as u32,
+        None => 0,
     }
+}
+
+// What a call came to as a number: 0, or the refusal's.
+fn number_of(done: Result<(), Refusal>) -> u32
+    ensures opening { result ≡ opening_number (opening_is done) }
+    ensures row { result ≡ refused_number (rowed_is done) }
+    ensures sheet { result ≡ refused_number (added_is done) }
+{
+    done.map_or_else(replies::refusal_number, |()| 0)
 }
 
 // Opens a register: 0, or the refusal's number.
@@ -28,10 +36,7 @@ pub extern "C" fn zidlemowo_length(m: u32, n: u32) -> u32
 pub extern "C" fn zidlemowo_open(words: &mut [u32], m: u32, n: u32) -> u32
     ensures { OpeningNumber words.old m n result words.new }
 {
-    match register::open(words, m, n) {
-        Opened::Ready => 0,
-        Opened::Rejected(refusal) => replies::refusal_number(refusal),
-    }
+    number_of(register::open(words, m, n))
 }
 
 // A kind, a cell and a detail in one number.
@@ -43,16 +48,15 @@ fn pack(kind: u32, cell: u32, detail: u32) -> u64
 }
 
 // The answer to a step in one number. A refusal is packed by itself: it names no cell, and has nothing to add.
-fn pack_answer(answer: Answer) -> u64
+fn pack_answer(answer: Result<Report, Refusal>) -> u64
     ensures { result ≡ reply_number (reply_is answer) }
 {
     match answer {
-        Answer::Reported(report) => {
-            let outcome = report.outcome;
-            let numbers = replies::outcome_numbers(outcome);
+        Ok(report) => {
+            let numbers = replies::outcome_numbers(report.outcome);
             pack(numbers.kind, numbers.cell, numbers.detail)
         }
-        Answer::Refused(refusal) => pack(4, 0, replies::refusal_number(refusal)),
+        Err(refusal) => pack(4, 0, replies::refusal_number(refusal)),
     }
 }
 
@@ -75,10 +79,7 @@ pub extern "C" fn zidlemowo_row(
     ensures { RowNumber words.old steps.now reports.old place result
         words.new reports.new }
 {
-    match rows::row(words, steps, reports, place) {
-        Rowed::Done => 0,
-        Rowed::Refused(refusal) => replies::refusal_number(refusal),
-    }
+    number_of(rows::row(words, steps, reports, place))
 }
 
 // Runs a schedule file with the register: everything that is printed of it, into the output as far as it fits; how long that is.
@@ -102,8 +103,5 @@ pub extern "C" fn zidlemowo_judge(file: &[u8], output: &mut [u8]) -> usize
 pub extern "C" fn zidlemowo_sheet(counts: &mut [u32], file: &[u8]) -> u32
     ensures { SheetNumber counts.old file.now result counts.new }
 {
-    match sheets::add_file(counts, file) {
-        Added::Counted => 0,
-        Added::Refused(refusal) => replies::refusal_number(refusal),
-    }
+    number_of(sheets::add_file(counts, file))
 }

@@ -1,9 +1,8 @@
 -- The answer to a read and to a try, by what is asked of the handler's row and of the commits; and what is then to be noted.
-use Prim.Native.Nat.{ℕ, ◌<◌}
-use native.Mathlib.Omega.{arith}
-use mathlib.Core.Path.{◌≡◌, sym, ap, ap₂, ◌∙◌}
-use mathlib.Core.Bool.{Bool, true, false, ◌||◌}
-use mathlib.Core.List.{List, [], ◌∷◌}
+use Rattle.std.proofs.Common.{ℕ, ◌<◌, arith, ◌≡◌, refl, sym, ap, ap₂, ◌∙◌, Bool, true, false, ◌||◌, List, [], ◌∷◌}
+use Rattle.std.specs.Option.{unwrap_or}
+use Rattle.std.specs.Prelude as Given
+use Rattle.replies.specs.Meaning.{content_is}
 use mathlib.Core.Option.{Option, none, some}
 use Rattle.rules.specs.steps.Tables.{lowest}
 use Rattle.rules.specs.steps.Codes.{Step, try, read}
@@ -183,3 +182,8 @@ pub touched_told : (words : List ℕ) (i x : ℕ) {row : ℕ} {told : Bool} → 
     → touched words i x ≡ told
 touched_told words i x there e =
     sym (e ∙ ap (λ (k : ℕ). let done = deeds_of (entry_in words k) (cells_of words) in has_read done x || has_written done x) there)
+
+-- The word that is noted of what a read showed is its value, or 0.
+pub word_noted : (content : Given.Option ℕ) → unwrap_or content 0 ≡ content_word (content_is content)
+word_noted Given.None = refl
+word_noted (Given.Some v) = refl

@@ -1,10 +1,7 @@
 -- What the judge shows of a cell, by its ways.
-use Prim.Native.Nat.{ℕ, ◌≤◌, ◌<◌}
-use mathlib.Core.Path.{◌≡◌, refl, ap₂}
-use mathlib.Core.Bool.{false, and-false}
-use mathlib.Core.List.{List}
+use Rattle.std.proofs.Common.{ℕ, ◌≤◌, ◌<◌, ◌≡◌, refl, ap₂, false, List, lt-ltb, le-ltb}
+use mathlib.Core.Bool.{and-false}
 use mathlib.Core.Option.{none, some}
-use borrow.Author.Tests.{lt-ltb, le-ltb}
 use Rattle.rules.specs.steps.Replies.{Content}
 use Rattle.rules.specs.history.History.{every_commit}
 use Rattle.rules.specs.history.Replay.{replay}

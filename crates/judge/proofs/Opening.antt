@@ -1,13 +1,7 @@
 -- An opening of the judge by its ways: refused with 20 or 21 and nothing changed, or ready with a fresh ledger in front of the words.
-use Prim.Native.Nat.{ℕ, ◌+◌, ◌-◌, ◌<◌, ◌≤◌}
-use native.Mathlib.Omega.{arith}
-use mathlib.Core.Path.{◌≡◌, sym, ap, ap₂, ◌∙◌}
-use mathlib.Core.Bool.{true}
+use Rattle.std.proofs.Common.{ℕ, ◌+◌, ◌-◌, ◌<◌, ◌≤◌, arith, ◌≡◌, sym, ap, ap₂, ◌∙◌, true, List, ◌∷◌, ◌++◌, length, get_or, set, drop, length-set}
+use Rattle.std.proofs.Common.{length-drop, ext_get_or, get_or-drop, drop-cons, get_or-set_same, get_or-set_other, le-ltb}
 use mathlib.Core.Option.{some}
-use mathlib.Core.List.{List, ◌∷◌, ◌++◌}
-use lib.ListN.{length, get_or, set, drop, length-set, length-drop}
-use lib.Seq.{ext_get_or, get_or-drop, drop-cons, get_or-set_same, get_or-set_other}
-use borrow.Author.Tests.{le-ltb}
 use Rattle.rules.specs.steps.Replies.{Refusal, too_short, Opening, ready}
 use Rattle.rules.specs.steps.Register.{zeros}
 use Rattle.rules.specs.steps.Checks.{first_hit, in_range, opening_checks}

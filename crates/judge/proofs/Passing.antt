@@ -1,8 +1,5 @@
 -- A step that no check refuses: taken by its kind, and passed within the limit.
-use Prim.Native.Nat.{ℕ}
-use mathlib.Core.Path.{◌≡◌, refl, ap}
-use mathlib.Core.Bool.{true, false}
-use mathlib.Core.List.{List}
+use Rattle.std.proofs.Common.{ℕ, ◌≡◌, refl, ap, true, false, List}
 use Rattle.rules.specs.steps.Codes.{Step, begin, give_up, write}
 use Rattle.rules.specs.steps.Replies.{gave_up, ok, aborted, Outcome, too_many_commits, Reply}
 use Rattle.rules.specs.demand.Demand.{reported_to}

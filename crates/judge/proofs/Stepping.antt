@@ -1,8 +1,5 @@
 -- The judge's step by its ways: no ledger, refused by a check, or passed.
-use Prim.Native.Nat.{ℕ}
-use mathlib.Core.Path.{◌≡◌, refl, sym, ap, ap₂, ◌∙◌}
-use mathlib.Core.Bool.{Bool, true, false}
-use mathlib.Core.List.{List}
+use Rattle.std.proofs.Common.{Result, ℕ, ◌≡◌, refl, sym, ap, ap₂, ◌∙◌, Bool, true, false, List}
 use mathlib.Core.Option.{Option, none, some}
 use Rattle.rules.specs.steps.Codes.{Step, Kind, known, plain_sheet}
 use Rattle.rules.specs.steps.Replies.{Refusal, not_well_formed, Reply}
@@ -13,6 +10,8 @@ use Rattle.rules.proofs.steps.Given.{given_exactly, free_exactly}
 use Rattle.rules.proofs.demand.Judged.{judged_refused, judged_free}
 use Rattle.layout.specs.Places.{cells_of, handlers_of}
 use Rattle.layout.specs.View.{word_setting}
+use Rattle.checks.specs.Promises.{verdict}
+use Rattle.checks.proofs.OneStep.{of_kind, for_kind}
 use Rattle.ledger.specs.Entries.{commits_noted, Ledger, is_ledger}
 use Rattle.ledger.specs.Histories.{history_in}
 use Rattle.ledger.specs.Noting.{note_words}
@@ -26,10 +25,12 @@ module _ (words : List ℕ) (handler code : ℕ) where
   says = first_hit (step_checks (asked_by_history (word_setting (cells_of words)) (handlers_of words) (history_in words) handler code))
 
   -- They are asked for the kind of the code and for the handler's phase.
-  pub asked_plainly : {kind : Kind} {opened : Bool} → kind ≡ plain_sheet code → opened ≡ (history_in words).opened handler
-      → first_hit (step_checks (asking true (cells_of words) (handlers_of words) handler kind opened)) ≡ says
-  asked_plainly kind opened =
-      ap₂ (λ k o. first_hit (step_checks (asking true (cells_of words) (handlers_of words) handler k o))) kind opened
+  pub asked_plainly : {kind : Kind} {opened : Bool} {answer : Result Step Refusal} → kind ≡ plain_sheet code
+      → opened ≡ (history_in words).opened handler
+      → answer ≡ verdict (first_hit (step_checks (asking true (cells_of words) (handlers_of words) handler kind opened))) kind
+      → answer ≡ verdict says (plain_sheet code)
+  asked_plainly kind opened told =
+      told ∙ ap₂ (λ k o. verdict (first_hit (step_checks (asking true (cells_of words) (handlers_of words) handler k o))) k) kind opened
 
 module _ (words : List ℕ) (handler code value : ℕ) where
   -- Words that are no ledger: 10.
@@ -62,11 +63,12 @@ module _ (words : List ℕ) (handler code value : ℕ) where
         within : limited (commits_noted words) (Reply.refused refusal) ≡ Reply.refused refusal
         within = limited_other (commits_noted words) (Reply.refused refusal) refl
 
-    module _ (e : says words handler code ≡ none) where
-      -- What they let through is ready,
-      pub step_ready : (s : Step) × (plain_sheet code ≡ known s) × JudgeReady words (cells_of words) handler s
+    module _ (e : says words handler code ≡ none) {step : Step} (asks : plain_sheet code ≡ known step) where
+      -- The step that they let through is ready,
+      pub step_ready : JudgeReady words (cells_of words) handler step
       step_ready =
-          let (s, free) = (free_exactly _).0 e in (
+          let (s, free) = (free_exactly _).0 e in
+          of_kind (JudgeReady words (cells_of words) handler) (
             s,
             free.fits.heard.known,
             record {
@@ -76,15 +78,14 @@ module _ (words : List ℕ) (handler code value : ℕ) where
               cell = free.fits.cell;
               phase = free.phase;
             },
-          )
+          ) step asks
 
       -- and passed.
-      pub step_passes : {reply : Reply ℕ} {after : List ℕ} → ((s : Step) → plain_sheet code ≡ known s → Passes words handler code s value reply after)
+      pub step_passes : {reply : Reply ℕ} {after : List ℕ} → Passes words handler code step value reply after
           → JudgedPromise words handler code value reply after
-      step_passes passes =
+      step_passes {reply} {after} passed =
           let (s, free) = (free_exactly _).0 e in
-          let asks : plain_sheet code ≡ known s = free.fits.heard.known in
-          let passed = passes s asks in
+          let itself = for_kind (λ t. Passes words handler code t value reply after) step asks passed s free.fits.heard.known in
           let told : Reply ℕ = reported_to handler code (answer_of words handler s) in
-          promised told (judged_free _ _ _ _ _ s free) passed.replied
-          (passed.left ∙ ap (λ kind. note_words words handler kind value (limited (commits_noted words) told)) (sym asks))
+          promised told (judged_free _ _ _ _ _ s free) itself.replied
+          (itself.left ∙ ap (λ kind. note_words words handler kind value (limited (commits_noted words) told)) (sym free.fits.heard.known))

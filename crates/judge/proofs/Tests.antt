@@ -1,30 +1,33 @@
 -- What the judge reads off its words before a step.
-use Prim.Native.Nat.{ℕ, ◌≤◌, ◌<◌}
-use mathlib.Core.Path.{◌≡◌, refl, sym, ap, ◌∙◌}
-use mathlib.Core.Bool.{Bool, true, false, not, ◌&&◌, ◌||◌, and-false}
-use mathlib.Core.List.{List, [], ◌∷◌}
-use mathlib.Core.Option.{Option, none, some}
-use lib.ListN.{length, get_or}
-use lib.Dec.{eqb, leb}
-use borrow.Author.Tests.{lt-leb, le-leb}
-use Rattle.rules.specs.steps.Tables.{is_found}
-use Rattle.rules.specs.steps.Codes.{Step, begin, try, give_up, read, write}
+use Rattle.std.proofs.Common.{ℕ, ◌≤◌, ◌<◌, ◌≡◌, refl, sym, ap, ◌∙◌, Bool, true, false, not, ◌&&◌, ◌||◌, List, [], ◌∷◌, Option, None, Some, length, eqb}
+use Rattle.std.proofs.Common.{leb, le-leb}
+use mathlib.Core.Bool.{and-false}
+use Rattle.std.specs.Bool.{OnTrue}
+use Rattle.std.specs.Option.{is_some}
+use Rattle.checks.specs.declared.Step as Checks
+use Rattle.checks.specs.declared.Step.TheVariants as Variants
+use Rattle.checks.specs.Meaning.{step_is}
+use Rattle.words.specs.Sets.{found_is}
+use borrow.Author.Tests.{lt-leb}
+use Rattle.rules.specs.steps.Tables.{lowest}
+use Rattle.rules.specs.steps.Codes.{Step, begin, give_up, read, write}
 use Rattle.rules.specs.steps.Replies.{overtaken, committed}
 use Rattle.rules.specs.steps.Checks.{◌naming◌, in_range, first_hit}
 use Rattle.rules.specs.steps.Register.{Setting}
 use Rattle.rules.specs.history.History.{Deed, Commit, has_read, has_written, writer}
 use Rattle.rules.specs.history.Past.{tears_at}
-use Rattle.rules.specs.demand.Judge.{or_aborted, answer_read, answer}
+use Rattle.rules.specs.demand.Judge.{stale, or_aborted, answer_read, answer}
 use Rattle.rules.proofs.steps.Tables.{by, found}
-use Rattle.layout.specs.Places.{cells_of, handlers_of, row_start}
+use Rattle.layout.specs.Places.{cells_of, handlers_of}
 use Rattle.layout.specs.View.{word_setting}
 use Rattle.layout.proofs.Rows.{below_beyond}
 use Rattle.ledger.specs.Entries.{ledger_long, most_commits, commits_noted, Ledger, is_ledger, handler_row, entry_in}
-use Rattle.ledger.specs.Histories.{is_open, history_in}
+use Rattle.ledger.specs.Histories.{is_open, deeds_of, commits_in, history_in}
 use Rattle.ledger.specs.Promises.{is_commit}
 use Rattle.ledger.proofs.Faithful.{opened_is}
-use Rattle.judge.specs.Taking.{answer_of}
-use Rattle.judge.proofs.Answers.{stale_cell, try_asked}
+use Rattle.ledger.proofs.Tested.{tested}
+use Rattle.judge.specs.Taking.{JudgeReady, answer_of}
+use Rattle.judge.proofs.Answers.{try_asked, stale_told}
 
 -- ── A ledger ──────────────────────────────────────────────────────────
 
@@ -44,6 +47,14 @@ module _ (words : List ℕ) (long : ledger_long ≤ length words) where
   unfolding is_ledger
   ledger_counted ranged = rw (le-leb ledger_long (length words) long, ranged)
 
+-- Words of which that is tested are one.
+pub ledger_kept : (b : Bool) (words : List ℕ) → b ≡ is_ledger words → OnTrue b (Ledger words)
+ledger_kept true words e = (tested words).0 (sym e)
+ledger_kept false words e = tt
+
+-- All of it.
+pub ruleset ledger_tests = (ledger_short, ledger_out, ledger_counted, ledger_kept)
+
 -- ── An open handler ───────────────────────────────────────────────────
 
 -- Beyond the handlers none is open,
@@ -52,12 +63,11 @@ unfolding history_in
 beyond_idle words handler outside =
     sym (below_beyond (handlers_of words) false (λ i. is_open (entry_in words (handler_row i))) handler outside)
 
--- and of each the first word of its row says it.
-pub phase_told : {words : List ℕ} {handler row at : ℕ} → row ≡ handler_row handler → at ≡ row_start row → Ledger words → handler < handlers_of words
-    → not (eqb (get_or words at 0) 0) ≡ (history_in words).opened handler
-unfolding entry_in
-phase_told {words} there placed ledger seat =
-    ap (λ (k : ℕ). not (eqb (get_or words k 0) 0)) (placed ∙ ap row_start there) ∙ sym (opened_is ledger seat)
+-- and of each the head of its row says it.
+pub phase_told : (words : List ℕ) (handler row head : ℕ) → row ≡ handler_row handler → head ≡ (entry_in words row).head → Ledger words
+    → handler < handlers_of words → not (eqb head 0) ≡ (history_in words).opened handler
+phase_told words handler row head there told ledger seat =
+    ap (λ (word : ℕ). not (eqb word 0)) (told ∙ ap (λ (k : ℕ). (entry_in words k).head) there) ∙ sym (opened_is ledger seat)
 
 -- ── One commit too many ───────────────────────────────────────────────
 
@@ -96,16 +106,27 @@ module _ (words : List ℕ) (i : ℕ) where
   unfolding answer
   write_passes x = passes (write x) refl
 
-  -- and a read;
+  -- and a read:
   pub read_passes : (x : ℕ) → false ≡ too_many (read x)
   unfolding answer
   read_passes x = passes (read x) (read_no_commit (word_setting (cells_of words)) (history_in words).commits ((history_in words).now i) x)
 
+  -- all but a try;
+  pub other_passes : (step : Checks.Step) → (step ≡ Variants.Try → ⊥) → false ≡ too_many (step_is step)
+  other_passes Variants.Begin other = begin_passes
+  other_passes Variants.Try other = absurd (other refl)
+  other_passes Variants.GiveUp other = give_up_passes
+  other_passes (Variants.Read x) other = read_passes x
+  other_passes (Variants.Write x) other = write_passes x
+
   -- without room a try is, unless a read is stale.
-  pub try_too_many : {told : Option ℕ} → Ledger words → i < handlers_of words → most_commits ≤ commits_noted words → stale_cell words i ≡ told
-      → not (is_found told) ≡ too_many try
-  try_too_many {told} ledger seat full said = rw (try_asked ledger seat, said, le-leb most_commits (commits_noted words) full) (commits_unless told)
+  pub try_too_many : {m : ℕ} (step : Checks.Step) (told : Option ℕ) (row : ℕ) → JudgeReady words m i (step_is step) → step ≡ Variants.Try
+      → most_commits ≤ commits_noted words → row ≡ handler_row i
+      → found_is told ≡ lowest m (stale (commits_in m words (commits_noted words)) (deeds_of (entry_in words row) m))
+      → too_many (step_is step) ≡ not (is_some told)
+  try_too_many step told row ready tried full there asked =
+      rw (tried, try_asked ready.ledger ready.handler, stale_told ready there asked, le-leb most_commits (commits_noted words) full) (commits_unless told)
     where
-      commits_unless : (told : Option ℕ) → not (is_found told) ≡ is_commit (or_aborted (first_hit ((overtaken naming told) ∷ [])) committed)
-      commits_unless (some z) = unfold or_aborted first_hit in refl
-      commits_unless none = unfold or_aborted first_hit in refl
+      commits_unless : (told : Option ℕ) → is_commit (or_aborted (first_hit ((overtaken naming (found_is told)) ∷ [])) committed) ≡ not (is_some told)
+      commits_unless (Some z) = unfold or_aborted first_hit in refl
+      commits_unless None = unfold or_aborted first_hit in refl

@@ -1,6 +1,5 @@
 -- Any two answers that the promise of the judge's length allows are equal. Those of its other operations are (replies' proofs/Apart.antt).
-use Prim.Native.Nat.{ℕ}
-use mathlib.Core.Path.{◌≡◌}
+use Rattle.std.proofs.Common.{ℕ, ◌≡◌}
 use Rattle.rules.proofs.Determined.{one_outcome}
 use Rattle.judge.specs.Lengths.{NeededPromise}
 

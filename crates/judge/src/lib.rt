@@ -13,8 +13,8 @@ ghost use Rattle.judge.specs.Ending.{JudgedEndPromise};
 
 use crate::reading::{is_ledger, is_open};
 use crate::taking::pass;
-use checks::Verdict;
-use replies::{Answer, End, Opened, Refusal};
+use past::History;
+use replies::{CellEnd, Refusal, Report};
 
 // The words that the judge needs, for any numbers of cells and handlers.
 pub fn words_needed() -> usize
@@ -25,58 +25,55 @@ pub fn words_needed() -> usize
 
 // Opens a ledger for m cells and n handlers in front of the words.
 #[tactic(auto, using(crate::proofs::Opening::ledger_short, crate::proofs::Opening::short_left, crate::proofs::Opening::short_said))]
-pub fn open(words: &mut [u32], m: u32, n: u32) -> Opened
+pub fn open(words: &mut [u32], m: u32, n: u32) -> Result<(), Refusal>
     ensures { LedgerPromise words.old m n (opening_is result) words.new }
 {
     if !limits::in_range(m, n) {
-        return Opened::Rejected(Refusal::OutOfRange);
+        return Err(Refusal::OutOfRange);
     }
     if words.len() < limits::LEDGER_WORDS {
-        return Opened::Rejected(Refusal::TooShort);
+        return Err(Refusal::TooShort);
     }
     words::clear(words, limits::FRONT, limits::LEDGER_BEHIND);
     words[places::CELLS] = m;
     words[places::HANDLERS] = n;
-    Opened::Ready
+    Ok(())
 }
 
 // Judges the step of a handler, or refuses it.
-pub fn step(words: &mut [u32], handler: u32, code: u32, value: u32) -> Answer
+pub fn step(words: &mut [u32], handler: u32, code: u32, value: u32) -> Result<Report, Refusal>
     ensures { JudgedPromise words.old handler code value (reply_is result) words.new }
 {
     if !is_ledger(words) {
-        return Answer::Refused(Refusal::NotWellFormed);
+        return Err(Refusal::NotWellFormed);
     }
     let kind = checks::kind_of(code);
     let opened = is_open(words, handler);
-    let verdict = checks::verdict_of(
+    let step = checks::verdict_of(
         words[places::CELLS] as usize,
         words[places::HANDLERS],
         handler,
         kind,
         opened,
-    );
-    match verdict {
-        Verdict::Refuses(refusal) => Answer::Refused(refusal),
-        Verdict::Passes => pass(words, handler, code, kind, value),
-    }
+    )?;
+    pass(words, handler, code, step, value)
 }
 
 // What a cell holds, and how many commits wrote it.
-pub fn cell_end(words: &[u32], c: u32) -> End
+#[tactic(auto, using(crate::proofs::Ends::no_end, crate::proofs::Ends::end_beyond, crate::proofs::Ends::end_shown))]
+pub fn cell_end(words: &[u32], c: u32) -> Option<CellEnd>
     ensures { JudgedEndPromise words.now c (end_is result) }
 {
-    if !is_ledger(words) {
-        return End::Missing;
-    }
-    if words[places::CELLS] <= c {
-        return End::Missing;
+    if !is_ledger(words) || words[places::CELLS] <= c {
+        return None;
     }
     let x = c as usize;
-    let count = words[places::COMMITS_NOTED] as usize;
-    let version = answers::present_version(words, x, count);
-    End::Cell {
-        content: answers::present_content(words, x, count),
-        number: version.number,
-    }
+    let history = History {
+        words,
+        count: words[places::COMMITS_NOTED] as usize,
+    };
+    Some(CellEnd {
+        content: answers::present_content(history, x),
+        number: answers::present_version(history, x).number,
+    })
 }

@@ -1,31 +1,28 @@
 // What the judge looks at before a step: whether the words are a ledger, whether a handler is open, whether there is room.
-ghost use Rattle.std.specs.Prelude.{◌≡◌, not, ◌&&◌, leb};
-ghost use Rattle.rules.specs.steps.Tables.{is_found};
-ghost use Rattle.rules.specs.steps.Codes.{Step, known};
+ghost use Rattle.std.specs.Prelude.{◌≡◌, ◌&&◌, leb};
+ghost use Rattle.std.specs.Bool.{OnTrue};
 ghost use Rattle.ledger.specs.Entries.{Ledger, is_ledger, commits_noted, most_commits};
 ghost use Rattle.ledger.specs.Histories.{history_in};
 ghost use Rattle.ledger.specs.Promises.{is_commit};
-ghost use Rattle.checks.specs.Meaning.{kind_is};
-ghost use Rattle.words.specs.Sets.{found_is};
+ghost use Rattle.checks.specs.Meaning.{step_is};
 ghost use Rattle.judge.specs.Taking.{JudgeReady, answer_of};
 
-use checks::Kind;
-use words::Found;
+use checks::Step;
+use past::{History, Row};
 
 // Whether the words are a ledger.
+#[tactic(auto, using(crate::proofs::Tests::ledger_tests))]
 pub fn is_ledger(words: &[u32]) -> bool
-    ensures { result ≡ is_ledger words.now }
+    ensures tested { result ≡ is_ledger words.now }
+    ensures kept { OnTrue result (Ledger words.now) }
 {
-    if words.len() < limits::LEDGER_WORDS {
-        return false;
-    }
-    if !limits::in_range(words[places::CELLS], words[places::HANDLERS]) {
-        return false;
-    }
-    words[places::COMMITS_NOTED] <= limits::MOST_COMMITS
+    limits::LEDGER_WORDS <= words.len()
+        && limits::in_range(words[places::CELLS], words[places::HANDLERS])
+        && words[places::COMMITS_NOTED] <= limits::MOST_COMMITS
 }
 
 // Whether a handler's transaction is open; beyond the handlers none is.
+#[tactic(auto, using(crate::proofs::Tests::beyond_idle, crate::proofs::Tests::phase_told))]
 pub fn is_open(words: &[u32], handler: u32) -> bool
     requires { Ledger words.now }
     ensures { result ≡ (history_in words.now).opened handler }
@@ -34,37 +31,23 @@ pub fn is_open(words: &[u32], handler: u32) -> bool
         return false;
     }
     let i = handler as usize;
-    let at = places::row_at(places::handler_row(i));
-    words[at] != 0
-}
-
-// Whether a search among the cells found none.
-fn is_nothing(found: Found) -> bool
-    ensures { result ≡ not (is_found (found_is found)) }
-{
-    match found {
-        Found::Nothing => true,
-        Found::Cell(_) => false,
-    }
+    let index = places::handler_row(i);
+    Row { words, index }.head() != 0
 }
 
 // Whether a step that no check refuses would be one commit more than are noted.
-#[tactic(auto, using(crate::proofs::Tests::room_left))]
-pub fn is_too_many(words: &[u32], m: usize, i: usize, kind: Kind) -> bool
-    requires { (s : Step) × (kind_is kind ≡ known s) × JudgeReady words.now m i s }
-    ensures { (s : Step) → kind_is kind ≡ known s
-        → result ≡ (leb most_commits (commits_noted words.now) && is_commit (answer_of words.now i s)) }
+#[tactic(auto, using(crate::proofs::Tests::room_left, crate::proofs::Tests::other_passes))]
+pub fn is_too_many(words: &[u32], m: usize, i: usize, step: Step) -> bool
+    requires { JudgeReady words.now m i (step_is step) }
+    ensures { result ≡ (leb most_commits (commits_noted words.now) && is_commit (answer_of words.now i (step_is step))) }
 {
     let count = words[places::COMMITS_NOTED] as usize;
     if count < limits::COMMIT_TABLE {
         return false;
     }
-    match kind {
-        Kind::Try => is_nothing(answers::overtaken_cell(words, m, places::handler_row(i), count)),
-        Kind::Begin => false,
-        Kind::GiveUp => false,
-        Kind::Read(_) => false,
-        Kind::Write(_) => false,
-        Kind::Unknown => false,
-    }
+    let row = Row {
+        words,
+        index: places::handler_row(i),
+    };
+    matches!(step, Step::Try) && answers::overtaken_cell(History { words, count }, m, row).is_none()
 }

@@ -2,8 +2,6 @@
 #![tactic(auto)]
 
 use limits::{MOST_CELLS, MOST_HANDLERS, REGISTER_WORDS};
-use register::Needed;
-use replies::Opened;
 use std::io;
 
 // A word fewer than the largest register has.
@@ -13,8 +11,8 @@ const TOO_FEW: usize = REGISTER_WORDS - 1;
 fn opened(rt: &impl Print, words: &mut [u32], m: u32, n: u32) -> io::Result<()> {
     let long = words.len();
     match register::open(words, m, n) {
-        Opened::Ready => println!(rt; "{m} {n} {long} ready"),
-        Opened::Rejected(refusal) => {
+        Ok(()) => println!(rt; "{m} {n} {long} ready"),
+        Err(refusal) => {
             let number = replies::refusal_number(refusal);
             println!(rt; "{m} {n} {long} refused {number}")
         }
@@ -24,8 +22,8 @@ fn opened(rt: &impl Print, words: &mut [u32], m: u32, n: u32) -> io::Result<()> 
 // Prints the words that a register needs.
 fn needed(rt: &impl Print, m: u32, n: u32) -> io::Result<()> {
     match register::words_needed(m, n) {
-        Needed::Words(count) => println!(rt; "{m} {n} {count} words"),
-        Needed::Nothing => println!(rt; "{m} {n} none"),
+        Some(count) => println!(rt; "{m} {n} {count} words"),
+        None => println!(rt; "{m} {n} none"),
     }
 }
 

@@ -43,7 +43,7 @@ code_text (some code) = decimal code
 code_text none = ascii "-"
 
 -- The front of a line: place and handler.
-abbrev pub front_text : ℕ → ℕ → List ℕ
+unfoldable pub front_text : ℕ → ℕ → List ℕ
 front_text place handler = decimal place ++ ascii " " ++ decimal handler ++ ascii " "
 
 -- A line: place, handler, step code or `-`, and the reply.

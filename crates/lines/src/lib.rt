@@ -1,23 +1,24 @@
-// The lines of a run: what an order place shows, and the bytes of each line, put into a lent buffer.
+// The lines of a run: what an order place shows, and the bytes of each line, put on a page.
 // Internal: called by our crates alone, which show what each function requires. A place's line fits in `limits::LONGEST_LINE` bytes.
 #![tactic(auto)]
 
-ghost use Rattle.std.specs.Prelude.{◌+◌, ◌*◌, ◌≤◌};
+ghost use Rattle.std.specs.Prelude.{◌+◌, ◌*◌, ◌≤◌, ◌++◌, length};
 ghost use Rattle.limits.specs.Limits.{most_file_bytes, longest_line};
-ghost use Rattle.std.proofs.Math.Option.{some};
 ghost use Rattle.rules.specs.steps.Replies.{reason_cell};
 ghost use Rattle.replies.specs.Meaning.{reason_is, content_is, outcome_is, refusal_is, reply_is};
 ghost use Rattle.replies.specs.Ends.{end_is};
-ghost use Rattle.text.specs.Lies.{Puts, farthest};
+ghost use Rattle.text.specs.Bytes.{decimal};
+ghost use Rattle.text.specs.Lies.{farthest};
+ghost use Rattle.text.specs.Pages.{Writes};
 ghost use Rattle.lines.specs.Lines.{line_is};
 ghost use Rattle.lines.specs.Texts.{front_text, content_text, named_text, abort_text, outcome_text};
 ghost use Rattle.lines.specs.Texts.{refusal_text, reply_text, place_text, header_text, end_text, refused_text};
 
-use replies::{Answer, Content, End, Outcome, Reason, Refusal};
-use text::{put_number, put_text};
+use replies::{CellEnd, Outcome, Reason, Refusal, Report};
+use text::Page;
 
 // What a place shows: nothing where the order has no such place, a refusal where no step was taken, or the answer to a step.
-#[derive(Clone, Copy)]
+#[derive(Clone, Copy, Debug, PartialEq, Eq)]
 pub enum Shown {
     Nothing,
     NoStep {
@@ -27,179 +28,176 @@ pub enum Shown {
     Asked {
         handler: u8,
         code: u8,
-        answer: Answer,
+        answer: Result<Report, Refusal>,
     },
 }
 
-// Puts a refusal at a place of a buffer.
-fn put_refusal(buffer: &mut [u8], at: usize, refusal: Refusal) -> usize
-    requires { at ≤ farthest + 64 }
-    ensures puts { Puts (refusal_text (refusal_is refusal)) at result buffer.old buffer.new }
-    ensures upper_bound { result ≤ at + 18 }
+// Puts a number and a text behind it.
+fn put_followed(page: &mut Page<'_>, n: u32, behind: &[u8])
+    requires { (page.old.end ≤ farthest + 64) × (length behind.now ≤ 16) }
+    ensures puts { Writes (decimal n ++ behind.now) page.old page.new }
+    ensures upper_bound { page.new.end ≤ page.old.end + length behind.now + 10 }
 {
-    let named = put_text(buffer, at, b"refused ");
-    put_number(buffer, named, replies::refusal_number(refusal))
+    page.put_number(n);
+    page.put_text(behind);
+}
+
+// Puts a refusal.
+fn put_refusal(page: &mut Page<'_>, refusal: Refusal)
+    requires { page.old.end ≤ farthest + 64 }
+    ensures puts { Writes (refusal_text (refusal_is refusal)) page.old page.new }
+    ensures upper_bound { page.new.end ≤ page.old.end + 18 }
+{
+    page.put_text(b"refused ");
+    page.put_number(replies::refusal_number(refusal));
 }
 
 // Puts what is shown of a cell.
-fn put_content(buffer: &mut [u8], at: usize, content: Content) -> usize
-    requires { at ≤ farthest + 64 }
-    ensures puts { Puts (content_text (content_is content)) at result buffer.old buffer.new }
-    ensures upper_bound { result ≤ at + 18 }
+fn put_content(page: &mut Page<'_>, content: Option<u32>)
+    requires { page.old.end ≤ farthest + 64 }
+    ensures puts { Writes (content_text (content_is content)) page.old page.new }
+    ensures upper_bound { page.new.end ≤ page.old.end + 18 }
 {
     match content {
-        Content::Unset => put_text(buffer, at, b"unset"),
-        Content::Value(value) => {
-            let named = put_text(buffer, at, b"value ");
-            put_number(buffer, named, value)
+        None => page.put_text(b"unset"),
+        Some(value) => {
+            page.put_text(b"value ");
+            page.put_number(value);
         }
     }
 }
 
-// Puts the cell that an abort names.
-fn put_named(buffer: &mut [u8], at: usize, cell: u8) -> usize
-    requires { at ≤ farthest + 96 }
-    ensures puts { Puts (named_text (some cell)) at result buffer.old buffer.new }
-    ensures upper_bound { result ≤ at + 9 }
-{
-    let named = put_text(buffer, at, b" cell ");
-    put_number(buffer, named, cell as u32)
-}
-
 // Puts the cell that a reason names, if it names one.
-fn put_cell_of(buffer: &mut [u8], at: usize, reason: Reason) -> usize
-    requires { at ≤ farthest + 96 }
-    ensures puts { Puts (named_text (reason_cell (reason_is reason))) at result buffer.old buffer.new }
-    ensures upper_bound { result ≤ at + 9 }
+#[tactic(auto, using(text::proofs::Decimals::widths))]
+fn put_cell_of(page: &mut Page<'_>, reason: Reason)
+    requires { page.old.end ≤ farthest + 96 }
+    ensures puts { Writes (named_text (reason_cell (reason_is reason))) page.old page.new }
+    ensures upper_bound { page.new.end ≤ page.old.end + 9 }
 {
     match reason {
-        Reason::Torn(y) => put_named(buffer, at, y),
-        Reason::Overtaken(z) => put_named(buffer, at, z),
-        Reason::Spent(z) => put_named(buffer, at, z),
-        Reason::GaveUp => at,
+        Reason::Torn(cell) | Reason::Overtaken(cell) | Reason::Spent(cell) => {
+            page.put_text(b" cell ");
+            page.put_number(cell as u32);
+        }
+        Reason::GaveUp => {}
     }
 }
 
 // Puts an abort: its number, and the cell that it names.
-fn put_abort(buffer: &mut [u8], at: usize, reason: Reason) -> usize
-    requires { at ≤ farthest + 64 }
-    ensures puts { Puts (abort_text (reason_is reason)) at result buffer.old buffer.new }
-    ensures upper_bound { result ≤ at + 18 }
+#[tactic(auto, using(crate::proofs::Reasons::reason_short))]
+fn put_abort(page: &mut Page<'_>, reason: Reason)
+    requires { page.old.end ≤ farthest + 64 }
+    ensures puts { Writes (abort_text (reason_is reason)) page.old page.new }
+    ensures upper_bound { page.new.end ≤ page.old.end + 18 }
 {
-    let named = put_text(buffer, at, b"abort ");
-    let numbered = put_number(buffer, named, replies::reason_number(reason));
-    put_cell_of(buffer, numbered, reason)
+    page.put_text(b"abort ");
+    page.put_number(replies::reason_number(reason));
+    put_cell_of(page, reason);
 }
 
 // Puts what a step came to.
-fn put_outcome(buffer: &mut [u8], at: usize, outcome: Outcome) -> usize
-    requires { at ≤ farthest + 64 }
-    ensures puts { Puts (outcome_text (outcome_is outcome)) at result buffer.old buffer.new }
-    ensures upper_bound { result ≤ at + 18 }
+fn put_outcome(page: &mut Page<'_>, outcome: Outcome)
+    requires { page.old.end ≤ farthest + 64 }
+    ensures puts { Writes (outcome_text (outcome_is outcome)) page.old page.new }
+    ensures upper_bound { page.new.end ≤ page.old.end + 18 }
 {
     match outcome {
-        Outcome::Done => put_text(buffer, at, b"ok"),
-        Outcome::Shows(content) => put_content(buffer, at, content),
-        Outcome::Committed => put_text(buffer, at, b"commit"),
-        Outcome::Aborted(reason) => put_abort(buffer, at, reason),
+        Outcome::Done => page.put_text(b"ok"),
+        Outcome::Shows(content) => put_content(page, content),
+        Outcome::Committed => page.put_text(b"commit"),
+        Outcome::Aborted(reason) => put_abort(page, reason),
     }
 }
 
 // Puts the answer to a step: what the report says that it came to, or else the refusal.
-fn put_answer(buffer: &mut [u8], at: usize, answer: Answer) -> usize
-    requires { at ≤ farthest + 64 }
-    ensures puts { Puts (reply_text (reply_is answer)) at result buffer.old buffer.new }
-    ensures upper_bound { result ≤ at + 18 }
+fn put_answer(page: &mut Page<'_>, answer: Result<Report, Refusal>)
+    requires { page.old.end ≤ farthest + 64 }
+    ensures puts { Writes (reply_text (reply_is answer)) page.old page.new }
+    ensures upper_bound { page.new.end ≤ page.old.end + 18 }
 {
-    let Answer::Reported(report) = answer else {
-        let numbers = replies::numbers_of(answer);
-        let named = put_text(buffer, at, b"refused ");
-        return put_number(buffer, named, numbers.detail);
+    let Ok(report) = answer else {
+        page.put_text(b"refused ");
+        page.put_number(replies::numbers_of(answer).detail);
+        return;
     };
-    let outcome = report.outcome;
-    put_outcome(buffer, at, outcome)
+    put_outcome(page, report.outcome);
 }
 
 // Puts the front of a place's line: the place and the handler.
-fn put_start(buffer: &mut [u8], at: usize, place: usize, handler: u8) -> usize
-    requires { (at ≤ farthest) × (place ≤ most_file_bytes) }
-    ensures puts { Puts (front_text place handler) at result buffer.old buffer.new }
-    ensures upper_bound { result ≤ at + 10 }
+#[tactic(auto, using(text::proofs::Decimals::widths), unfolding(crate::specs::Texts::front_text))]
+fn put_start(page: &mut Page<'_>, place: usize, handler: u8)
+    requires { (page.old.end ≤ farthest) × (place ≤ most_file_bytes) }
+    ensures puts { Writes (front_text place handler) page.old page.new }
+    ensures upper_bound { page.new.end ≤ page.old.end + 10 }
 {
-    let placed = put_number(buffer, at, place as u32);
-    let apart = put_text(buffer, placed, b" ");
-    let named = put_number(buffer, apart, handler as u32);
-    put_text(buffer, named, b" ")
+    put_followed(page, place as u32, b" ");
+    put_followed(page, handler as u32, b" ");
 }
 
 // Puts the line of an order place, if it shows one.
-pub fn put_place(buffer: &mut [u8], at: usize, place: usize, shown: Shown) -> usize
-    requires { (at ≤ farthest) × (place ≤ most_file_bytes) }
-    ensures puts { Puts (place_text (line_is place shown)) at result buffer.old buffer.new }
-    ensures upper_bound { result ≤ at + longest_line }
+#[tactic(auto, using(text::proofs::Decimals::widths), unfolding(crate::specs::Texts::line_text))]
+pub fn put_place(page: &mut Page<'_>, place: usize, shown: Shown)
+    requires { (page.old.end ≤ farthest) × (place ≤ most_file_bytes) }
+    ensures puts { Writes (place_text (line_is place shown)) page.old page.new }
+    ensures upper_bound { page.new.end ≤ page.old.end + longest_line }
 {
     match shown {
-        Shown::Nothing => at,
+        Shown::Nothing => {}
         Shown::NoStep { handler, refusal } => {
-            let started = put_start(buffer, at, place, handler);
-            let without = put_text(buffer, started, b"-");
-            let apart = put_text(buffer, without, b" ");
-            let told = put_refusal(buffer, apart, refusal);
-            put_text(buffer, told, b"\n")
+            put_start(page, place, handler);
+            page.put_text(b"-");
+            page.put_text(b" ");
+            put_refusal(page, refusal);
+            page.put_text(b"\n");
         }
         Shown::Asked {
             handler,
             code,
             answer,
         } => {
-            let started = put_start(buffer, at, place, handler);
-            let coded = put_number(buffer, started, code as u32);
-            let apart = put_text(buffer, coded, b" ");
-            let told = put_answer(buffer, apart, answer);
-            put_text(buffer, told, b"\n")
+            put_start(page, place, handler);
+            put_followed(page, code as u32, b" ");
+            put_answer(page, answer);
+            page.put_text(b"\n");
         }
     }
 }
 
 // Puts the header.
-pub fn put_header(buffer: &mut [u8], at: usize, handlers: u32, cells: u32) -> usize
-    requires { at ≤ farthest }
-    ensures puts { Puts (header_text handlers cells) at result buffer.old buffer.new }
-    ensures upper_bound { result ≤ at + 2 * longest_line }
+#[tactic(auto, unfolding(crate::specs::Texts::header_text))]
+pub fn put_header(page: &mut Page<'_>, handlers: u32, cells: u32)
+    requires { page.old.end ≤ farthest }
+    ensures puts { Writes (header_text handlers cells) page.old page.new }
+    ensures upper_bound { page.new.end ≤ page.old.end + 2 * longest_line }
 {
-    let named = put_text(buffer, at, b"handlers ");
-    let counted = put_number(buffer, named, handlers);
-    let besides = put_text(buffer, counted, b" cells ");
-    let all = put_number(buffer, besides, cells);
-    put_text(buffer, all, b"\n")
+    page.put_text(b"handlers ");
+    put_followed(page, handlers, b" cells ");
+    put_followed(page, cells, b"\n");
 }
 
 // Puts the line of a cell at the end, if there is such a cell.
-pub fn put_cell(buffer: &mut [u8], at: usize, c: u32, end: End) -> usize
-    requires { at ≤ farthest }
-    ensures puts { Puts (end_text c (end_is end)) at result buffer.old buffer.new }
-    ensures upper_bound { result ≤ at + 2 * longest_line }
+#[tactic(auto, unfolding(crate::specs::Texts::cell_text))]
+pub fn put_cell(page: &mut Page<'_>, c: u32, end: Option<CellEnd>)
+    requires { page.old.end ≤ farthest }
+    ensures puts { Writes (end_text c (end_is end)) page.old page.new }
+    ensures upper_bound { page.new.end ≤ page.old.end + 2 * longest_line }
 {
-    match end {
-        End::Cell { content, number } => {
-            let named = put_text(buffer, at, b"cell ");
-            let counted = put_number(buffer, named, c);
-            let apart = put_text(buffer, counted, b" ");
-            let held = put_content(buffer, apart, content);
-            let behind = put_text(buffer, held, b" number ");
-            let all = put_number(buffer, behind, number);
-            put_text(buffer, all, b"\n")
-        }
-        End::Missing => at,
+    if let Some(CellEnd { content, number }) = end {
+        page.put_text(b"cell ");
+        put_followed(page, c, b" ");
+        put_content(page, content);
+        page.put_text(b" number ");
+        put_followed(page, number, b"\n");
     }
 }
 
 // Puts the one line of a refused file.
-pub fn put_refused(buffer: &mut [u8], at: usize, refusal: Refusal) -> usize
-    requires { at ≤ farthest }
-    ensures puts { Puts (refused_text (refusal_is refusal)) at result buffer.old buffer.new }
-    ensures upper_bound { result ≤ at + longest_line }
+#[tactic(auto, unfolding(crate::specs::Texts::refused_text))]
+pub fn put_refused(page: &mut Page<'_>, refusal: Refusal)
+    requires { page.old.end ≤ farthest }
+    ensures puts { Writes (refused_text (refusal_is refusal)) page.old page.new }
+    ensures upper_bound { page.new.end ≤ page.old.end + longest_line }
 {
-    let told = put_refusal(buffer, at, refusal);
-    put_text(buffer, told, b"\n")
+    put_refusal(page, refusal);
+    page.put_text(b"\n");
 }

@@ -1,8 +1,5 @@
 -- The stores of a note, at places that were computed: they are the stores of the law at the places that the layout says.
-use Prim.Native.Nat.{ℕ, ◌+◌, ◌^◌, ◌≤◌, ◌<◌}
-use mathlib.Core.Path.{◌≡◌, ap, ap₂, ◌∙◌, subst}
-use mathlib.Core.List.{List}
-use lib.ListN.{length, get_or, set}
+use Rattle.std.proofs.Common.{ℕ, ◌+◌, ◌^◌, ◌≤◌, ◌<◌, ◌≡◌, ap, ap₂, ◌∙◌, subst, List, length, get_or, set}
 use Rattle.rules.specs.steps.Register.{zeros}
 use Rattle.layout.specs.Places.{row_long, row_start, written_at, source_at, copy_at}
 use Rattle.layout.specs.Bits.{with_bit}

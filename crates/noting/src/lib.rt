@@ -9,6 +9,7 @@ ghost use Rattle.ledger.specs.Entries.{ledger_long, Ledger, commits_noted, entry
 ghost use Rattle.ledger.specs.Noting.{empty_entry, read_entry, written_entry, committed_entry, note_commit_row};
 
 // Leaves nothing in a row but its head.
+#[tactic(auto, using(crate::proofs::Placed::emptied_at))]
 pub fn empty_row(words: &mut [u32], row: usize, head: u32)
     requires { (row < ledger_rows) × (ledger_long ≤ length words.old) }
     ensures { words.new ≡ with_entry words.old row (empty_entry head) }
@@ -19,6 +20,7 @@ pub fn empty_row(words: &mut [u32], row: usize, head: u32)
 }
 
 // Notes a read of the cell x in a row: the place of the commit that wrote the version read, and its value.
+#[tactic(auto, using(crate::proofs::Placed::read_at))]
 pub fn note_read(words: &mut [u32], row: usize, x: usize, place: usize, value: u32)
     requires row_lt_ledger_rows { (row < ledger_rows) × (ledger_long ≤ length words.old) × (x < most_cells) × (place ≤ most_commits) }
     requires row_bound { get_or words.old (written_at row) 0 < 2 ^ 32 }
@@ -31,6 +33,7 @@ pub fn note_read(words: &mut [u32], row: usize, x: usize, place: usize, value: u
 }
 
 // Notes a write of the cell x in a row.
+#[tactic(auto, using(crate::proofs::Placed::write_at))]
 pub fn note_write(words: &mut [u32], row: usize, x: usize, value: u32)
     requires { (row < ledger_rows) × (ledger_long ≤ length words.old) × (x < most_cells) }
     ensures { words.new ≡ with_entry words.old row (written_entry (entry_in words.old row) x value) }
@@ -42,6 +45,7 @@ pub fn note_write(words: &mut [u32], row: usize, x: usize, value: u32)
 }
 
 // Copies the row of handler i to that of a new commit.
+#[tactic(auto, using(crate::proofs::Placed::copied_at))]
 fn copy_row(words: &mut [u32], i: usize, place: usize)
     requires { (i < most_handlers) × (1 ≤ place) × (place ≤ most_commits) × (ledger_long ≤ length words.old) }
     ensures { words.new ≡ with_entry words.old (commit_row place) (committed_entry i (entry_in words.old (handler_row i))) }
@@ -53,6 +57,7 @@ fn copy_row(words: &mut [u32], i: usize, place: usize)
 }
 
 // Notes a commit of handler i.
+#[tactic(auto, using(crate::proofs::Stores::commit_stored, crate::proofs::Stores::with_length))]
 pub fn note_commit(words: &mut [u32], i: usize)
     requires { Ledger words.old × (i < handlers_of words.old) × (commits_noted words.old < most_commits) }
     ensures { words.new ≡ note_commit_row words.old i }

@@ -1,16 +1,12 @@
 -- Pasts added to marks, one asked after another: a transaction's cell by cell, and a version's with the commit that wrote it.
-use Prim.Native.Nat.{ℕ, ◌+◌, ◌-◌, ◌≤◌}
-use native.Mathlib.Numerals.{add-one}
-use mathlib.Core.Path.{◌≡◌, sym, ◌∙◌}
-use mathlib.Core.Bool.{true}
-use mathlib.Core.List.{List}
+use Rattle.std.proofs.Common.{ℕ, ◌+◌, ◌-◌, ◌≤◌, add-one, ◌≡◌, sym, ◌∙◌, true, List}
 use Rattle.rules.specs.history.Past.{up_to, last_of}
 use Rattle.rules.proofs.steps.Tables.{both_ways}
 use Rattle.ledger.specs.Entries.{Entry, entry_in, commit_row}
 use Rattle.ledger.specs.Histories.{deeds_of, commits_in}
 use Rattle.ledger.proofs.Commits.{up_to_first, up_to_opening}
 use Rattle.past.specs.Marks.{past_of_transaction, past_of_version, source_place, marked, only, Adds, Closed}
-use Rattle.past.proofs.Marks.{adds_none, adds_nothing, adds_both, closed_adds}
+use Rattle.past.proofs.Marking.{adds_none, adds_nothing, adds_both, closed_adds}
 use Rattle.past.proofs.Pasts.{past_after, closed_past, version_past, own_past, cell_adds}
 
 module _ (m : ℕ) (words : List ℕ) where
@@ -51,8 +47,8 @@ module _ (m : ℕ) (words : List ℕ) where
   adds_again marks place closed there = adds_nothing _ marks (λ j. closed.holds place j there)
 
   -- Any other is marked after its transaction's past.
-  pub adds_version : {marks seen after handler row : ℕ} (place : ℕ) → 1 ≤ place
-      → handler ≡ (entry_in words (commit_row place)).head → row ≡ commit_row place
-      → Adds (past_of_transaction m words (place - 1) handler (entry_in words row)) marks seen → Adds (only place) seen after
-      → Adds (past_of_version m words place) marks after
-  adds_version place h own there past itself = adds_both _ (λ j. version_past m words place j h) (rw (own, there) at past) itself
+  pub adds_version : {marks seen after handler count : ℕ} {e : Entry} {sooner : List ℕ} (place : ℕ) → 1 ≤ place
+      → e ≡ entry_in words (commit_row place) → handler ≡ e.head → (sooner ≡ words) × (count ≡ place - 1)
+      → Adds (past_of_transaction m sooner count handler e) marks seen → Adds (only place) seen after → Adds (past_of_version m words place) marks after
+  adds_version place h said own first past itself =
+      adds_both _ (λ j. version_past m words place j h) (rw (first.0, first.1, own, said) at past) itself

@@ -1,4 +1,5 @@
 -- The laws of marks and of pasts over the judge's words, in the order in which they are best read.
-pub mod Marks
+pub mod Marking
 pub mod Pasts
 pub mod Asked
+pub mod Last

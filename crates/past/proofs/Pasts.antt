@@ -1,13 +1,6 @@
 -- Laws of pasts over the judge's words: a past has with each commit its past; it is the past of the handler's last commit, and with
 -- each cell that was read the past of the version read; and a version's past is that of the commit that wrote it.
-use Prim.Native.Nat.{ℕ, zero, suc, ◌-◌, ◌≤◌}
-use native.Mathlib.Omega.{arith}
-use native.Mathlib.Numerals.{sub-one}
-use mathlib.Core.Path.{◌≡◌, refl, sym, ap, ◌∙◌}
-use mathlib.Core.Bool.{Bool, true, false, ◌||◌}
-use mathlib.Core.List.{List, []}
-use lib.Dec.{leb}
-use borrow.Author.Tests.{leb-true, leb-false}
+use Rattle.std.proofs.Common.{ℕ, zero, suc, ◌-◌, ◌≤◌, arith, sub-one, ◌≡◌, refl, sym, ap, ◌∙◌, Bool, true, false, ◌||◌, List, [], leb, leb-true, leb-false}
 use Rattle.rules.specs.steps.Figure.{version_shows}
 use Rattle.rules.specs.history.History.{Deed, Commit}
 use Rattle.rules.specs.history.Past.{InPast, before, UpTo, itself, behind, in_past, up_to, last_of}

@@ -35,15 +35,8 @@ pub fn answer<R: Read, W: Write>(
     ensures not_read { IsErrOf result Failed.NotRead → Keeps (W.contents output.old) (W.contents output.new) }
 {
     let mut file = [0u8; filters::MOST_READ];
-    let reading = filters::read_file(rt, input, &mut file);
-    if !reading.whole {
-        return Err(Failed::NotRead);
-    }
-    let count = reading.count;
+    let count = filters::read_file(rt, input, &mut file)?;
     let mut buffer = filters::room();
     let long = put_text(player, &file[..count], &mut buffer);
-    if !filters::write_front(rt, output, &buffer, long) {
-        return Err(Failed::NotWritten);
-    }
-    Ok(())
+    filters::write_front(rt, output, &buffer, long)
 }

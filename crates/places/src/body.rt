@@ -4,12 +4,7 @@ ghost use Rattle.limits.specs.Limits.{most_cells, most_handlers};
 ghost use Rattle.layout.specs.Places.{body_long, cell_long, handler_long, cell_start, own_at, handler_start, transaction_from, copies_from};
 ghost use Rattle.places.specs.Spans.{Spans};
 
-// A part of the words: its first place, and the place behind it.
-#[derive(Clone, Copy)]
-pub struct Span {
-    pub start: usize,
-    pub end: usize,
-}
+use std::ops::Range;
 
 // In front of the body: m.
 pub const CELLS: usize = 0;
@@ -52,16 +47,13 @@ pub fn copies(m: usize) -> usize
 }
 
 // Where the words of cell c lie.
-pub fn cell_at(m: usize, c: usize) -> Span
+pub fn cell_at(m: usize, c: usize) -> Range<usize>
     requires { (m ≤ most_cells) × (c < most_cells) }
     ensures { Spans (cell_start m c) (cell_long m) result.start result.end }
 {
     let long = NUMBERS + m;
     let start = c * long;
-    Span {
-        start,
-        end: start + long,
-    }
+    start..start + long
 }
 
 // Where cell c's own number lies.
@@ -73,16 +65,13 @@ pub fn own_number(m: usize, c: usize) -> usize
 }
 
 // Where the block of handler i lies.
-pub fn block_at(m: usize, i: usize) -> Span
+pub fn block_at(m: usize, i: usize) -> Range<usize>
     requires { (m ≤ most_cells) × (i < most_handlers) }
     ensures { Spans (handler_start m i) (handler_long m) result.start result.end }
 {
     let long = HANDLER_NUMBERS + 3 * m;
     let start = m * (NUMBERS + m) + i * long;
-    Span {
-        start,
-        end: start + long,
-    }
+    start..start + long
 }
 
 // The words of a body of m cells and n handlers: where the block of handler n would begin.

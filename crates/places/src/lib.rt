@@ -9,7 +9,7 @@ mod row;
 mod sheet;
 
 pub use body::{
-    CELLS, HANDLER_NUMBERS, HANDLERS, NUMBERS, PHASE, READ_SET, Span, VALUE, WRITTEN_SET, block_at,
+    CELLS, HANDLER_NUMBERS, HANDLERS, NUMBERS, PHASE, READ_SET, VALUE, WRITTEN_SET, block_at,
     body_words, cell_at, copies, own_number, transaction_numbers,
 };
 pub use ledger::{COMMITS_NOTED, commit_row, copy_at, handler_row, row_at, source_at, written_at};

@@ -10,7 +10,7 @@ use Rattle.rules.specs.steps.Figure.{aborting, committing, unless_aborted, read_
 use Rattle.rules.specs.steps.Turn.{step_refusal, turned, turn}
 use Rattle.layout.specs.WellFormed.{every_below}
 use Rattle.text.specs.Bytes.{written, spelled, in_turn}
-use Rattle.lines.specs.Texts.{line_text, lines_text, header_text, cell_text, refused_text}
+use Rattle.lines.specs.Texts.{front_text, line_text, lines_text, header_text, cell_text, refused_text}
 use Rattle.schedule.specs.Bytes.{short_at, long_at}
 use Rattle.schedule.specs.Sound.{due_at, is_placed, is_sound_table, is_sound_file}
 use Rattle.schedule.specs.Scripts.{steps_behind}
@@ -23,7 +23,7 @@ use Rattle.prints.specs.Listings.{published, given_up, calm, empty, unknown, uno
 -- The runner prints each listing,
 pub listings_printed : map (λ l. printed l.file) listings ≡ map (λ l. l.text) listings
 unfolding listings published given_up calm empty unknown unordered written
-    played_text line_text lines_text header_text cell_text refused_text in_turn spelled
+    played_text front_text line_text lines_text header_text cell_text refused_text in_turn spelled
     run_of played_by started run_from ordered next_asked admission_of admitted file_refusal file_checks
     steps_behind is_sound_file is_sound_table is_placed due_at short_at long_at every_below in_range
     put or_else lowest some_below plain_sheet with_handler idle blank fresh first_hit step_checks
@@ -34,7 +34,7 @@ listings_printed = refl
 -- and so does the judge.
 pub listings_judged : map (λ l. judged_printed l.file) listings ≡ map (λ l. l.text) listings
 unfolding listings published given_up calm empty unknown unordered written
-    judged_text cut_after commits_among line_text lines_text header_text cell_text refused_text in_turn spelled
+    judged_text cut_after commits_among front_text line_text lines_text header_text cell_text refused_text in_turn spelled
     run_of played_by started run_from ordered next_asked admission_of admitted file_refusal file_checks
     steps_behind is_sound_file is_sound_table is_placed due_at short_at long_at every_below in_range
     put or_else lowest some_below plain_sheet with_handler idle blank fresh first_hit step_checks

@@ -1,12 +1,13 @@
--- A run that is underway: the lines that are put into a buffer and those that are still to come are all of its lines.
+-- A run that is underway: the lines that are put on a page and those that are still to come are all of its lines.
 use Prim.Native.Nat.{ℕ, suc, ◌+◌, ◌-◌, ◌<◌}
 use mathlib.Core.Path.{◌≡◌, refl, sym, ap, ◌∙◌}
 use mathlib.Core.Bool.{true, false, not, true≢false}
 use mathlib.Core.List.{List, [], ◌++◌, append_assoc, append-nil}
 use mathlib.Core.Option.{Option, none, some}
 use native.Mathlib.Omega.{arith}
-use Rattle.text.specs.Lies.{Puts}
-use Rattle.text.proofs.Puts.{puts_none, puts_both}
+use Rattle.text.specs.declared.Page.{Page}
+use Rattle.text.specs.Pages.{Writes}
+use Rattle.text.proofs.Pages.{writes_none, writes_both}
 use Rattle.lines.specs.Lines.{Line}
 use Rattle.lines.specs.Texts.{place_text, lines_text}
 use Rattle.schedule.specs.Taking.{Cursors}
@@ -46,25 +47,25 @@ last_stops (some line) lines here = rw here
 
 -- Of a whole run of so many places the lines before a place are put, and those from there on are to come.
 pub record Underway (player : Player) (file : List ℕ) (places : ℕ) (cursors : Cursors) (place : ℕ) (words : List ℕ) (whole : Stretch)
-    (at end : ℕ) (before after : List ℕ) : Type 0 where
+    (before after : Page) : Type 0 where
   pub text : List ℕ
-  pub puts : Puts text at end before after
+  pub puts : Writes text before after
   pub lines : let rest = places_from player file (places - place) cursors place words in
       lines_text (until_stop whole.lines) ≡ text ++ lines_text (until_stop rest.lines)
   pub stops : ever_stops whole.lines ≡ ever_stops (places_from player file (places - place) cursors place words).lines
   pub ends : whole.words ≡ (places_from player file (places - place) cursors place words).words
 
 -- Before the first place all is to come.
-pub underway_start : {player : Player} {file : List ℕ} {places : ℕ} {cursors : Cursors} {words : List ℕ} {at : ℕ} {buffer : List ℕ}
-    → Underway player file places cursors 0 words (places_from player file places cursors 0 words) at at buffer buffer
+pub underway_start : {player : Player} {file : List ℕ} {places : ℕ} {cursors : Cursors} {words : List ℕ} {page : Page}
+    → Underway player file places cursors 0 words (places_from player file places cursors 0 words) page page
 underway_start {places = places} =
     let all : places - 0 ≡ places = omega arith in
-    record { text = []; puts = puts_none; lines = rw all; stops = rw all; ends = rw all }
+    record { text = []; puts = writes_none; lines = rw all; stops = rw all; ends = rw all }
 
 module _ {player : Player} {file : List ℕ} {places : ℕ} {cursors used : Cursors} {place : ℕ} {words left : List ℕ} {line : Option Line}
-    {whole : Stretch} {at mid end : ℕ} {before between after : List ℕ}
-    (within : place < places) (so_far : Underway player file places cursors place words whole at mid before between)
-    (promise : PlacePromise player file cursors place words line used left) (puts : Puts (place_text line) mid end between after) where
+    {whole : Stretch} {before between after : Page}
+    (within : place < places) (so_far : Underway player file places cursors place words whole before between)
+    (promise : PlacePromise player file cursors place words line used left) (puts : Writes (place_text line) between after) where
   -- What comes behind this place.
   later : Stretch
   later = places_from player file (places - (place + 1)) used (place + 1) left
@@ -77,11 +78,11 @@ module _ {player : Player} {file : List ℕ} {places : ℕ} {cursors used : Curs
       rw (fewer, promise.replied, ap (λ l. l.cursors) promise.left, ap (λ l. l.words) promise.left)
 
   -- A line at which the run does not stop is put: the others are to come.
-  pub underway_more : stops_at line ≡ false → Underway player file places used (place + 1) left whole at end before after
+  pub underway_more : stops_at line ≡ false → Underway player file places used (place + 1) left whole before after
   unfolding later
   underway_more on = record {
     text = so_far.text ++ place_text line;
-    puts = puts_both so_far.puts puts;
+    puts = writes_both so_far.puts puts;
     lines =
         so_far.lines ∙ ap (λ s. so_far.text ++ lines_text (until_stop s.lines)) to_come
         ∙ ap (so_far.text ++◌) (front_text_lem line later.lines on) ∙ sym (append_assoc so_far.text (place_text line) _);
@@ -90,18 +91,18 @@ module _ {player : Player} {file : List ℕ} {places : ℕ} {cursors used : Curs
   }
 
   -- A line at which it stops is the last.
-  pub underway_last : stops_at line ≡ true → PlacesPut whole at end false before after left
+  pub underway_last : stops_at line ≡ true → PlacesPut whole false before after left
   underway_last here = record {
     puts = rw (so_far.lines ∙ ap (λ s. so_far.text ++ lines_text (until_stop s.lines)) to_come
-        ∙ ap (so_far.text ++◌) (last_text line later.lines here)) (puts_both so_far.puts puts);
+        ∙ ap (so_far.text ++◌) (last_text line later.lines here)) (writes_both so_far.puts puts);
     ended = sym (ap not (so_far.stops ∙ ap (λ s. ever_stops s.lines) to_come ∙ last_stops line later.lines here));
     left = λ is. absurd (true≢false (sym is));
   }
 
 -- Behind the last place all lines are put.
 pub underway_end : {player : Player} {file : List ℕ} {places : ℕ} {cursors : Cursors} {place : ℕ} {words : List ℕ} {whole : Stretch}
-    {at end : ℕ} {before after : List ℕ} → places ≡ place → Underway player file places cursors place words whole at end before after
-    → PlacesPut whole at end true before after words
+    {before after : Page} → places ≡ place → Underway player file places cursors place words whole before after
+    → PlacesPut whole true before after words
 unfolding places_from lines_text until_stop ever_stops
 underway_end {places = places} {place = place} all so_far =
     let none_left : places - place ≡ 0 = omega (arith, all) in

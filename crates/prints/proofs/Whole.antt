@@ -25,8 +25,10 @@ use Rattle.promises.proofs.Runs.{checks_pass, opens}
 use Rattle.replies.specs.Ends.{cell_line}
 use Rattle.ledger.specs.Entries.{ledger_long}
 use Rattle.ledger.specs.Promises.{ledger_refusal, LedgerPromise}
-use Rattle.text.specs.Lies.{Puts}
-use Rattle.text.proofs.Puts.{puts_whole}
+use Rattle.std.specs.Borrow.{MutBor}
+use Rattle.text.specs.declared.Page.{Page}
+use Rattle.text.specs.Pages.{Writes}
+use Rattle.text.proofs.Pages.{page_whole}
 use Rattle.lines.specs.Lines.{Line}
 use Rattle.lines.specs.Texts.{header_text, lines_text, cell_text, end_text, refused_text}
 use Rattle.schedule.specs.Sound.{handlers_in, cells_in, order_in}
@@ -201,7 +203,8 @@ judge_prints file words long = found (file_refusal file)
     (λ refusal e. refused_text_lem the_judge file words e ∙ sym (ap judged_text (refused_run file e)))
     (λ free. judge_text file free words long)
 
--- A text that is put whole, from the front on, is printed as promised.
-pub printing_kept : (text : List ℕ → List ℕ) (file : List ℕ) {told : List ℕ} {end : ℕ} {before after : List ℕ} → told ≡ text file
-    → Puts told 0 end before after → Promise (printing text) (record { file = file; buffer = before }) end after
-printing_kept text file is put = let whole = puts_whole (rw is at put) in record { replied = whole.0; left = whole.1 }
+-- A text that is put on an empty page over a buffer is printed as promised.
+pub printing_kept : (text : List ℕ → List ℕ) (file : List ℕ) {told left : List ℕ} {buffer : MutBor (List ℕ)} {before after : Page}
+    → told ≡ text file → before.end ≡ 0 → before.buffer ≡ buffer → Writes told before after → left ≡ after.buffer.now
+    → Promise (printing text) (record { file = file; buffer = buffer.now }) after.end left
+printing_kept text file is front lent put kept = let whole = page_whole front lent (rw is at put) in record { replied = whole.0; left = kept ∙ whole.1 }

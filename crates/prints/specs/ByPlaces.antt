@@ -2,7 +2,8 @@
 -- this crate cite it; proofs/Whole.antt shows that it is the text by the rules.
 use Rattle.std.specs.Prelude.{ℕ, ◌≡◌, Bool, true, not, List, [], ◌++◌, if◌then◌else◌}
 use Rattle.text.specs.Bytes.{in_turn}
-use Rattle.text.specs.Lies.{Puts}
+use Rattle.text.specs.declared.Page.{Page}
+use Rattle.text.specs.Pages.{Writes}
 use Rattle.lines.specs.Texts.{header_text, lines_text, end_text, refused_text}
 use Rattle.schedule.specs.Taking.{at_start, places_in}
 use Rattle.schedule.specs.Admitting.{Admission, sound, admission_of}
@@ -37,8 +38,8 @@ admitted_text player file words (Admission.refused refusal) = refused_text refus
 abbrev pub file_text : Player → List ℕ → List ℕ → List ℕ
 file_text player file words = admitted_text player file words (admission_of file)
 
--- The lines of some places are put into a buffer: whether the run came to its end, and what is left of the words if it did.
-pub record PlacesPut (stretch : Stretch) (at end : ℕ) (whole : Bool) (before after words : List ℕ) : Type 0 where
-  pub puts : Puts (lines_text (until_stop stretch.lines)) at end before after
+-- The lines of some places are put on a page: whether the run came to its end, and what is left of the words if it did.
+pub record PlacesPut (stretch : Stretch) (whole : Bool) (before after : Page) (words : List ℕ) : Type 0 where
+  pub puts : Writes (lines_text (until_stop stretch.lines)) before after
   pub ended : whole ≡ not (ever_stops stretch.lines)
   pub left : whole ≡ true → words ≡ stretch.words

@@ -1,26 +1,19 @@
 -- Nothing is lost in what a reply means, nor in what is shown of a cell: different answers are different replies of the rules, and
 -- different ends different lines. Each meaning can be read back.
-use Prim.Native.Nat.{ℕ}
-use mathlib.Core.Path.{◌≡◌, refl, ap}
-use mathlib.Core.Option.{Option, none, some}
+use Rattle.std.proofs.Common.{ℕ, ◌≡◌, refl, ap, Option, None, Some, Result, Ok, Err}
+use Rattle.std.proofs.Math.Option as Math
 use Rattle.rules.specs.steps.Replies as Rules
 use Rattle.rules.proofs.Determined.{Determined, determined}
 use Rattle.rules.proofs.steps.Numbers.{Injective, read_back}
 use Rattle.replies.specs.declared.Reason.{Reason}
 use Rattle.replies.specs.declared.Reason.TheVariants.{Torn, Overtaken, Spent, GaveUp}
-use Rattle.replies.specs.declared.Content.{Content}
-use Rattle.replies.specs.declared.Content.TheVariants.{Unset, Value}
 use Rattle.replies.specs.declared.Outcome.{Outcome}
 use Rattle.replies.specs.declared.Outcome.TheVariants.{Done, Shows, Committed, Aborted}
 use Rattle.replies.specs.declared.Refusal.{Refusal}
 use Rattle.replies.specs.declared.Refusal.TheVariants.{NotWellFormed, NoHandler, NoCell, AlreadyOpen, NotOpen, UnknownStep}
 use Rattle.replies.specs.declared.Refusal.TheVariants.{OutOfRange, TooShort, BadFile, UsedUp, TooManyCommits, SheetFull, NoRoom}
-use Rattle.replies.specs.declared.Answer.{Answer}
-use Rattle.replies.specs.declared.Answer.TheVariants.{Reported, Refused}
-use Rattle.replies.specs.declared.Opened.{Opened}
-use Rattle.replies.specs.declared.Opened.TheVariants.{Ready, Rejected}
-use Rattle.replies.specs.declared.End.{End}
-use Rattle.replies.specs.declared.End.TheVariants.{Cell, Missing}
+use Rattle.replies.specs.declared.Report.{Report}
+use Rattle.replies.specs.declared.CellEnd.{CellEnd}
 use Rattle.replies.specs.Meaning.{reason_is, content_is, outcome_is, refusal_is, reply_is, opening_is}
 use Rattle.replies.specs.Ends.{CellLine, end_is}
 
@@ -32,9 +25,9 @@ reason_back (Rules.overtaken z) = Overtaken z
 reason_back (Rules.spent z) = Spent z
 reason_back Rules.gave_up = GaveUp
 
-content_back : Rules.Content ℕ → Content
-content_back Rules.unset = Unset
-content_back (Rules.value v) = Value v
+content_back : Rules.Content ℕ → Option ℕ
+content_back Rules.unset = None
+content_back (Rules.value v) = Some v
 
 outcome_back : Rules.Outcome ℕ → Outcome
 outcome_back Rules.ok = Done
@@ -57,17 +50,17 @@ refusal_back Rules.too_many_commits = TooManyCommits
 refusal_back Rules.sheet_full = SheetFull
 refusal_back Rules.no_room = NoRoom
 
-pub answer_back : Rules.Reply ℕ → Answer
-answer_back (Rules.reported report) = Reported (record { handler = report.handler; code = report.code; outcome = outcome_back report.outcome })
-answer_back (Rules.Reply.refused refusal) = Refused (refusal_back refusal)
+pub answer_back : Rules.Reply ℕ → Result Report Refusal
+answer_back (Rules.reported report) = Ok (record { handler = report.handler; code = report.code; outcome = outcome_back report.outcome })
+answer_back (Rules.Reply.refused refusal) = Err (refusal_back refusal)
 
-opened_back : Rules.Opening → Opened
-opened_back Rules.ready = Ready
-opened_back (Rules.Opening.refused refusal) = Rejected (refusal_back refusal)
+opened_back : Rules.Opening → Result Unit Refusal
+opened_back Rules.ready = Ok tt
+opened_back (Rules.Opening.refused refusal) = Err (refusal_back refusal)
 
-end_back : Option CellLine → End
-end_back (some line) = Cell (content_back line.content) line.number
-end_back none = Missing
+end_back : Math.Option CellLine → Option CellEnd
+end_back (Math.some line) = Some (record { content = content_back line.content; number = line.number })
+end_back Math.none = None
 
 -- ── What is read back is what was said ────────────────────────────────
 
@@ -78,10 +71,10 @@ reason_same (Overtaken z) = refl
 reason_same (Spent z) = refl
 reason_same GaveUp = refl
 
-content_same : (content : Content) → content_back (content_is content) ≡ content
+content_same : (content : Option ℕ) → content_back (content_is content) ≡ content
 unfolding content_back
-content_same Unset = refl
-content_same (Value v) = refl
+content_same None = refl
+content_same (Some v) = refl
 
 outcome_same : (outcome : Outcome) → outcome_back (outcome_is outcome) ≡ outcome
 unfolding outcome_back
@@ -106,20 +99,20 @@ refusal_same TooManyCommits = refl
 refusal_same SheetFull = refl
 refusal_same NoRoom = refl
 
-pub answer_same : (answer : Answer) → answer_back (reply_is answer) ≡ answer
+pub answer_same : (answer : Result Report Refusal) → answer_back (reply_is answer) ≡ answer
 unfolding answer_back
-answer_same (Reported report) = ap (λ o. Reported (record { handler = report.handler; code = report.code; outcome = o })) (outcome_same report.outcome)
-answer_same (Refused refusal) = ap Refused (refusal_same refusal)
+answer_same (Ok report) = ap (λ o. Ok (record { handler = report.handler; code = report.code; outcome = o })) (outcome_same report.outcome)
+answer_same (Err refusal) = ap Err (refusal_same refusal)
 
-opened_same : (opened : Opened) → opened_back (opening_is opened) ≡ opened
+opened_same : (opened : Result Unit Refusal) → opened_back (opening_is opened) ≡ opened
 unfolding opened_back
-opened_same Ready = refl
-opened_same (Rejected refusal) = ap Rejected (refusal_same refusal)
+opened_same (Ok tt) = refl
+opened_same (Err refusal) = ap Err (refusal_same refusal)
 
-end_same : (end : End) → end_back (end_is end) ≡ end
+end_same : (end : Option CellEnd) → end_back (end_is end) ≡ end
 unfolding end_back
-end_same (Cell content number) = ap (λ shown. Cell shown number) (content_same content)
-end_same Missing = refl
+end_same (Some end) = ap (λ shown. Some (record { content = shown; number = end.number })) (content_same end.content)
+end_same None = refl
 
 -- ── No two are the same ───────────────────────────────────────────────
 

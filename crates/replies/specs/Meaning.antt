@@ -1,21 +1,16 @@
 -- What each reply of this crate is in the rules: a definition for each kind of answer, case by case. Numbers and values come from
 -- the rules.
-use Rattle.std.specs.Prelude.{ℕ}
+use Rattle.std.specs.Prelude.{ℕ, Option, None, Some, Result, Ok, Err}
 use Rattle.rules.specs.steps.Replies as Rules
 use Rattle.replies.specs.declared.Reason.{Reason}
 use Rattle.replies.specs.declared.Reason.TheVariants.{Torn, Overtaken, Spent, GaveUp}
-use Rattle.replies.specs.declared.Content.{Content}
-use Rattle.replies.specs.declared.Content.TheVariants.{Unset, Value}
 use Rattle.replies.specs.declared.Outcome.{Outcome}
 use Rattle.replies.specs.declared.Outcome.TheVariants.{Done, Shows, Committed, Aborted}
 use Rattle.replies.specs.declared.Refusal.{Refusal}
 use Rattle.replies.specs.declared.Refusal.TheVariants.{NotWellFormed, NoHandler, NoCell, AlreadyOpen, NotOpen, UnknownStep}
 use Rattle.replies.specs.declared.Refusal.TheVariants.{OutOfRange, TooShort, BadFile, UsedUp, TooManyCommits, SheetFull, NoRoom}
-use Rattle.replies.specs.declared.Answer.{Answer}
-use Rattle.replies.specs.declared.Answer.TheVariants.{Reported, Refused}
+use Rattle.replies.specs.declared.Report.{Report}
 use Rattle.replies.specs.declared.Numbers.{Numbers}
-use Rattle.replies.specs.declared.Opened.{Opened}
-use Rattle.replies.specs.declared.Opened.TheVariants.{Ready, Rejected}
 
 -- The rules' reason.
 abbrev pub reason_is : Reason → Rules.Reason
@@ -25,9 +20,9 @@ reason_is (Spent z) = Rules.spent z
 reason_is GaveUp = Rules.gave_up
 
 -- The rules' content.
-abbrev pub content_is : Content → Rules.Content ℕ
-content_is Unset = Rules.unset
-content_is (Value v) = Rules.value v
+abbrev pub content_is : Option ℕ → Rules.Content ℕ
+content_is None = Rules.unset
+content_is (Some v) = Rules.value v
 
 -- The rules' outcome.
 abbrev pub outcome_is : Outcome → Rules.Outcome ℕ
@@ -53,14 +48,14 @@ refusal_is SheetFull = Rules.sheet_full
 refusal_is NoRoom = Rules.no_room
 
 -- The rules' reply to a step.
-abbrev pub reply_is : Answer → Rules.Reply ℕ
-reply_is (Reported report) = Rules.reported (record { handler = report.handler; code = report.code; outcome = outcome_is report.outcome })
-reply_is (Refused refusal) = Rules.Reply.refused (refusal_is refusal)
+abbrev pub reply_is : Result Report Refusal → Rules.Reply ℕ
+reply_is (Ok report) = Rules.reported (record { handler = report.handler; code = report.code; outcome = outcome_is report.outcome })
+reply_is (Err refusal) = Rules.Reply.refused (refusal_is refusal)
 
 -- The rules' reply to an opening.
-abbrev pub opening_is : Opened → Rules.Opening
-opening_is Ready = Rules.ready
-opening_is (Rejected refusal) = Rules.Opening.refused (refusal_is refusal)
+abbrev pub opening_is : Result Unit Refusal → Rules.Opening
+opening_is (Ok tt) = Rules.ready
+opening_is (Err refusal) = Rules.Opening.refused (refusal_is refusal)
 
 -- The rules' numbers of an answer.
 abbrev pub numbers_are : Numbers → Rules.Numbers

@@ -9,7 +9,7 @@ ghost use Rattle.replies.specs.Meaning.{reason_is, content_is, outcome_is, reply
 ghost use Rattle.replies.specs.Numbers.{VersionPromise, ReasonPromise, RefusalPromise, OutcomePromise, NumbersPromise};
 
 // Why a transaction was aborted, and by which cell: the lowest that meets the condition.
-#[derive(Clone, Copy)]
+#[derive(Clone, Copy, Debug, PartialEq, Eq)]
 pub enum Reason {
     Torn(u8),
     Overtaken(u8),
@@ -17,24 +17,17 @@ pub enum Reason {
     GaveUp,
 }
 
-// What is shown of a cell: nothing where it was never written, and else its value.
-#[derive(Clone, Copy)]
-pub enum Content {
-    Unset,
-    Value(u32),
-}
-
-// What a step that is taken comes to.
-#[derive(Clone, Copy)]
+// What a step that is taken comes to. What is shown of a cell that was never written is nothing, and else its value.
+#[derive(Clone, Copy, Debug, PartialEq, Eq)]
 pub enum Outcome {
     Done,
-    Shows(Content),
+    Shows(Option<u32>),
     Committed,
     Aborted(Reason),
 }
 
 // A report names handler and step, and holds the outcome.
-#[derive(Clone, Copy)]
+#[derive(Clone, Copy, Debug, PartialEq, Eq)]
 pub struct Report {
     pub handler: u32,
     pub code: u32,
@@ -42,64 +35,46 @@ pub struct Report {
 }
 
 // Why a step, an opening, a schedule file or an order place is refused, why the judge stops, why a sheet takes no file, and why a row is
-// not begun.
-#[derive(Clone, Copy)]
+// not begun: each with its number.
+#[derive(Clone, Copy, Debug, PartialEq, Eq)]
 pub enum Refusal {
-    NotWellFormed,
-    NoHandler,
-    NoCell,
-    AlreadyOpen,
-    NotOpen,
-    UnknownStep,
-    OutOfRange,
-    TooShort,
-    BadFile,
-    UsedUp,
-    TooManyCommits,
-    SheetFull,
-    NoRoom,
-}
-
-// The answer to a step.
-#[derive(Clone, Copy)]
-pub enum Answer {
-    Reported(Report),
-    Refused(Refusal),
-}
-
-// The answer to an opening.
-#[derive(Clone, Copy)]
-pub enum Opened {
-    Ready,
-    Rejected(Refusal),
+    NotWellFormed = 10,
+    NoHandler = 11,
+    NoCell = 12,
+    AlreadyOpen = 13,
+    NotOpen = 14,
+    UnknownStep = 15,
+    OutOfRange = 20,
+    TooShort = 21,
+    BadFile = 30,
+    UsedUp = 32,
+    TooManyCommits = 33,
+    SheetFull = 41,
+    NoRoom = 42,
 }
 
 // An answer in numbers: its kind (0 ok, 1 value, 2 commit, 3 abort, 4 refused, 5 unset), its value or number, and the cell that it names;
 // each 0 where there is none.
-#[derive(Clone, Copy)]
+#[derive(Clone, Copy, Debug, PartialEq, Eq)]
 pub struct Numbers {
     pub kind: u32,
     pub detail: u32,
     pub cell: u32,
 }
 
-// What is shown of a cell at the end, if there is such a cell.
-#[derive(Clone, Copy)]
-pub enum End {
-    Cell { content: Content, number: u32 },
-    Missing,
+// A cell at the end: what it holds, and its own number.
+#[derive(Clone, Copy, Debug, PartialEq, Eq)]
+pub struct CellEnd {
+    pub content: Option<u32>,
+    pub number: u32,
 }
 
 // What a version of a number shows: the opening's, which has number 0, nothing.
 #[tactic(auto, using(rules::proofs::steps::Steps::shows_nothing, rules::proofs::steps::Steps::shows_value))]
-pub fn version_shows(number: u32, value: u32) -> Content
+pub fn version_shows(number: u32, value: u32) -> Option<u32>
     ensures { VersionPromise number value (content_is result) }
 {
-    if number == 0 {
-        Content::Unset
-    } else {
-        Content::Value(value)
-    }
+    if number == 0 { None } else { Some(value) }
 }
 
 // The number of a reason.
@@ -130,34 +105,20 @@ fn reason_cell(reason: Reason) -> u8
 pub fn refusal_number(refusal: Refusal) -> u32
     ensures { RefusalPromise refusal result }
 {
-    match refusal {
-        Refusal::NotWellFormed => 10,
-        Refusal::NoHandler => 11,
-        Refusal::NoCell => 12,
-        Refusal::AlreadyOpen => 13,
-        Refusal::NotOpen => 14,
-        Refusal::UnknownStep => 15,
-        Refusal::OutOfRange => 20,
-        Refusal::TooShort => 21,
-        Refusal::BadFile => 30,
-        Refusal::UsedUp => 32,
-        Refusal::TooManyCommits => 33,
-        Refusal::SheetFull => 41,
-        Refusal::NoRoom => 42,
-    }
+    refusal as u32
 }
 
 // What is shown of a cell, in numbers.
-fn content_numbers(content: Content) -> Numbers
+fn content_numbers(content: Option<u32>) -> Numbers
     ensures { numbers_are result ≡ content_numbers (content_is content) }
 {
     match content {
-        Content::Unset => Numbers {
+        None => Numbers {
             kind: 5,
             detail: 0,
             cell: 0,
         },
-        Content::Value(value) => Numbers {
+        Some(value) => Numbers {
             kind: 1,
             detail: value,
             cell: 0,
@@ -190,15 +151,12 @@ pub fn outcome_numbers(outcome: Outcome) -> Numbers
 }
 
 // The answer to a step in numbers.
-pub fn numbers_of(answer: Answer) -> Numbers
+pub fn numbers_of(answer: Result<Report, Refusal>) -> Numbers
     ensures { NumbersPromise (reply_is answer) (numbers_are result) }
 {
     match answer {
-        Answer::Reported(report) => {
-            let outcome = report.outcome;
-            outcome_numbers(outcome)
-        }
-        Answer::Refused(refusal) => Numbers {
+        Ok(report) => outcome_numbers(report.outcome),
+        Err(refusal) => Numbers {
             kind: 4,
             detail: refusal_number(refusal),
             cell: 0,

@@ -1,14 +1,8 @@
 -- A row is refused with each number exactly when Given.antt says, and then nothing is changed; and all that is known of a row that is not.
-use Prim.Native.Nat.{ℕ, ◌+◌, ◌≤◌}
-use mathlib.Core.Path.{◌≡◌, refl, sym, ap, ◌∙◌}
-use mathlib.Core.Bool.{false}
-use mathlib.Core.List.{List}
-use mathlib.Core.Logic.{◌↔◌, ◌⊎◌, inl, inr}
-use mathlib.Core.Option.{Option, none, some}
-use lib.Dec.{ltb}
-use lib.ListN.{length}
-use borrow.Author.Tests.{not-false, lt-ltb, le-ltb, ltb-true, ltb-false}
-use Rattle.rules.specs.steps.Replies.{Refusal, not_well_formed, no_room, already_open, bad_file, no_cell, no_handler, not_open, out_of_range}
+use Rattle.std.proofs.Common.{ℕ, ◌+◌, ◌≤◌, ◌≡◌, refl, sym, ap, ◌∙◌, false, List, ◌↔◌, ◌⊎◌, inl, inr, ltb, length, lt-ltb, le-ltb, ltb-true, ltb-false}
+use Rattle.std.proofs.Math.Option.{Option, none, some}
+use Rattle.std.proofs.lemmas.Bool.{not-false}
+use Rattle.rules.specs.steps.Replies.{Refusal, not_well_formed, no_room}
 use Rattle.rules.specs.steps.Checks.{first_hit}
 use Rattle.rules.proofs.steps.Given.{exactly, none_holds}
 use Rattle.rules.proofs.steps.Tables.{by, both_ways}
@@ -17,7 +11,6 @@ use Rattle.layout.specs.WellFormed.{WellFormed, is_well_formed}
 use Rattle.layout.proofs.Tested.{tested}
 use Rattle.rows.specs.Rows.{steps_in, words_after, reports_of, RowCall, Lent, reports_long, row_checks, rowed_by, rowing, RowPromise}
 use Rattle.rows.specs.Given.{RowGiven, malformed, short}
-use Rattle.rules.specs.steps.Replies.{sheet_full, too_many_commits, too_short, unknown_step, used_up}
 
 -- ── Exactly then ──────────────────────────────────────────────────────
 
@@ -49,19 +42,8 @@ row_exactly call = exactly (RowGiven call) hits decided
     not_formed bad = by (is_well_formed call.words) (λ e. absurd (bad ((tested call.words).0 e))) (λ e. e)
 
     hits : (refusal : Refusal) → RowGiven call refusal → said_of call ≡ some refusal
-    hits no_handler given = elim given [ ]
-    hits no_cell given = elim given [ ]
-    hits already_open given = elim given [ ]
-    hits not_open given = elim given [ ]
-    hits unknown_step given = elim given [ ]
-    hits out_of_range given = elim given [ ]
-    hits too_short given = elim given [ ]
-    hits bad_file given = elim given [ ]
-    hits used_up given = elim given [ ]
-    hits too_many_commits given = elim given [ ]
-    hits sheet_full given = elim given [ ]
-    hits not_well_formed (malformed bad) = unfold row_checks first_hit in (rw (not_formed bad))
-    hits no_room (short formed few) =
+    hits _ (malformed bad) = unfold row_checks first_hit in (rw (not_formed bad))
+    hits _ (short formed few) =
         unfold row_checks first_hit in (rw ((tested call.words).1 formed, lt-ltb (length call.reports) (end_of call) few))
 
     decided : ((refusal : Refusal) × RowGiven call refusal) ⊎ (said_of call ≡ none)

@@ -1,16 +1,8 @@
 -- A row by its ways: words that are no register, too little room for the reports, and else all steps.
-use Prim.Native.Nat.{ℕ, ◌+◌, ◌*◌, ◌/◌}
-use mathlib.Core.Path.{◌≡◌, sym, ap, ap₂, ◌∙◌}
-use mathlib.Core.Bool.{Bool, true, false}
-use mathlib.Core.List.{List}
-use mathlib.Core.Option.{none, some}
-use native.Mathlib.Omega.{arith}
-use lib.Dec.{ltb}
-use lib.ListN.{length, take}
-use lib.Seq.{take_all}
+use Rattle.std.proofs.Common.{ℕ, ◌+◌, ◌*◌, ◌/◌, ◌≡◌, Bool, true, false, List, ltb, length}
+use Rattle.std.proofs.Math.Option.{none, some}
 use Rattle.rules.specs.steps.Replies.{Refusal, not_well_formed, no_room}
 use Rattle.rules.specs.steps.Checks.{first_hit}
-use Rattle.rules.specs.demand.Demand.{Ask}
 use Rattle.limits.specs.Limits.{step_width, report_width}
 use Rattle.layout.specs.Rows.{splice}
 use Rattle.layout.specs.WellFormed.{is_well_formed}
@@ -48,23 +40,10 @@ module _ (words steps reports : List ℕ) (place : ℕ) where
     says_nothing is = rw (formed, steps_count steps, is)
 
     -- and all steps are taken.
-    pub row_done : short ≡ false → {after told : List ℕ} → let asks = take (length steps / step_width) (steps_in steps) in
-        after ≡ words_after words asks → told ≡ splice place (report_width * (length steps / step_width)) (reports_of words asks) reports
+    pub row_done : short ≡ false → {after told : List ℕ} → after ≡ words_after words (steps_in steps)
+        → told ≡ splice place (report_width * length (steps_in steps)) (reports_of words (steps_in steps)) reports
         → RowPromise words steps reports place none after told
     unfolding rowing rowed_by
     row_done is {after} {told} left put =
-        record { replied = rw nothing; left = rw nothing (λ i. record { words = words_left i; reports = reports_left i }) }
-      where
-        nothing : first_hit (row_checks call) ≡ none
-        nothing = says_nothing is
-
-        all : take (length steps / step_width) (steps_in steps) ≡ steps_in steps
-        all = take_all (length steps / step_width) (steps_in steps) (omega (arith, steps_count steps))
-
-        words_left : after ≡ words_after words (steps_in steps)
-        words_left = left ∙ ap (words_after words) all
-
-        reports_left : told ≡ splice place (report_width * length (steps_in steps)) (reports_of words (steps_in steps)) reports
-        reports_left =
-            put ∙ ap₂ (λ (count : ℕ) (asks : List (Ask ℕ)). splice place (report_width * count) (reports_of words asks) reports)
-            (sym (steps_count steps)) all
+        let nothing = says_nothing is in
+        record { replied = rw nothing; left = rw nothing (λ i. record { words = left i; reports = put i }) }

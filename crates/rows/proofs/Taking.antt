@@ -1,15 +1,11 @@
 -- A row of which so many steps are taken: none at first, then one more by the register's promise and the report that is put, and in the
 -- end all. And whether there is room for the reports.
-use Prim.Native.Nat.{ℕ, suc, ◌+◌, ◌*◌, ◌≤◌, ◌<◌}
-use mathlib.Core.Path.{◌≡◌, refl, sym, ap, ap₂, ◌∙◌, subst}
-use mathlib.Core.Bool.{not}
-use mathlib.Core.List.{List, [], ◌∷◌, ◌++◌, append_assoc}
-use native.Mathlib.Numerals.{add-one}
-use native.Mathlib.Omega.{arith}
-use lib.Dec.{leb, ltb}
-use lib.ListN.{length, set, take, drop, take-append-drop}
-use lib.Seq.{length-take-le, sets-eq}
-use borrow.Author.Tests.{ltb-true, ltb-false, le-leb, lt-leb}
+use Rattle.std.proofs.Common.{ℕ, suc, ◌+◌, ◌*◌, ◌≤◌, ◌<◌, ◌≡◌, refl, sym, ap, ap₂, ◌∙◌, subst, not, List, [], ◌∷◌, ◌++◌, append_assoc}
+use Rattle.std.proofs.Common.{arith, leb, ltb, length, get_or, set, take, drop, take-append-drop, drop_at, drop-drop, length-take-le}
+use Rattle.std.proofs.Common.{length-append, length-drop, get_or-drop, add-one, ltb-true, ltb-false, le-leb}
+use Rattle.std.proofs.lemmas.Bool.{lt-leb}
+use Rattle.std.proofs.lemmas.List.{get_or_append_left}
+use Rattle.std.proofs.lemmas.List.Edits.{sets-eq}
 use Rattle.rules.specs.steps.Replies.{Reply, Numbers, reply_numbers}
 use Rattle.rules.specs.demand.Demand.{Ask}
 use Rattle.rules.proofs.steps.Tables.{by}
@@ -59,6 +55,24 @@ pub record TakesTo (words steps reports : List ℕ) (place k : ℕ) (after told 
   pub put : told ≡ splice place (report_width * k) (reports_of words (take k (steps_in steps))) reports
   pub long : length told ≡ length reports
 
+-- In front of the words that are left, three words are the next step: it is one of the row, and the others are left behind it.
+pub step_next : (steps : List ℕ) (k : ℕ) (step : List ℕ) {rest : List ℕ} → length step ≡ step_width → drop (step_width * k) steps ≡ step ++ rest
+    → (step_width * suc k ≤ length steps) × (ask_at steps (step_width * k) ≡ ask_at step 0) × (rest ≡ drop (step_width * (k + 1)) steps)
+step_next steps k step {rest} three front = (omega (arith, three, simp (length-drop, length-append) at (ap length front)), same, behind)
+  where
+    word : (j : ℕ) → j < step_width → get_or steps (step_width * k + j) 0 ≡ get_or step j 0
+    word j inside =
+        sym (get_or-drop (step_width * k) steps j 0) ∙ ap (λ words. get_or words j 0) front
+        ∙ get_or_append_left step rest 0 j (omega (arith, three))
+
+    same : ask_at steps (step_width * k) ≡ ask_at step 0
+    same i = record { handler = word 0 (omega arith) i; code = word 1 (omega arith) i; value = word 2 (omega arith) i }
+
+    behind : rest ≡ drop (step_width * (k + 1)) steps
+    behind =
+        sym (drop_at step rest step_width three) ∙ ap (drop step_width) (sym front) ∙ drop-drop step_width (step_width * k) steps
+        ∙ ap (λ words. drop words steps) (let next : step_width * k + step_width ≡ step_width * (k + 1) = omega arith in next)
+
 module _ (words steps reports : List ℕ) (place : ℕ) where
   -- None is taken.
   pub takes_none : WellFormed words → TakesTo words steps reports place 0 words reports
@@ -71,14 +85,14 @@ module _ (words steps reports : List ℕ) (place : ℕ) where
           sym (take-append-drop place reports) ∙ ap (λ (at : ℕ). take place reports ++ drop at reports) place_is
 
   module _ (k : ℕ) (whole : step_width * suc k ≤ length steps) (fits : place + report_width * suc k ≤ length reports)
-      {after told next saying : List ℕ} {reply : Reply ℕ} where
+      {after told next saying : List ℕ} {a : Ask ℕ} {reply : Reply ℕ} where
     -- The next is taken, and reported behind the others.
-    pub takes_next_lem : TakesTo words steps reports place k after told
-        → let a = ask_at steps (step_width * k) in StepPromise after a.handler a.code a.value reply next → WellFormed next
+    pub takes_next_lem : TakesTo words steps reports place k after told → ask_at steps (step_width * k) ≡ a
+        → StepPromise after a.handler a.code a.value reply next → WellFormed next
         → saying ≡ splice (place + report_width * k) report_width (report_of (record { handler = a.handler; code = a.code; value = 0 }) reply) told
         → TakesTo words steps reports place (k + 1) next saying
     unfolding words_after reports_of
-    takes_next_lem before p formed reported = subst (λ (n : ℕ). TakesTo words steps reports place n next saying) (sym (add-one k)) (record {
+    takes_next_lem before is p formed reported = subst (λ (n : ℕ). TakesTo words steps reports place n next saying) (sym (add-one k)) (record {
       formed = formed;
       left = p.left ∙ ap (λ (from : List ℕ). (asking from a).leaves) before.left
           ∙ sym (words_both words asks (a ∷ [])) ∙ ap (words_after words) (sym grown);
@@ -87,14 +101,11 @@ module _ (words steps reports : List ℕ) (place : ℕ) where
       long = ap length put ∙ (splice_untouched place (report_width * suc k) (reports_of words (take (suc k) (steps_in steps))) reports counted fits).size;
     })
       where
-        a : Ask ℕ
-        a = ask_at steps (step_width * k)
-
         asks : List (Ask ℕ)
         asks = take k (steps_in steps)
 
         grown : take (suc k) (steps_in steps) ≡ asks ++ (a ∷ [])
-        grown = steps_grow k steps whole
+        grown = steps_grow k steps whole ∙ ap (λ (one : Ask ℕ). asks ++ (one ∷ [])) is
 
         -- The reports of k steps, and of one more.
         so_long : (n : ℕ) → step_width * n ≤ length steps → length (reports_of words (take n (steps_in steps))) ≡ report_width * n

@@ -3,7 +3,7 @@
 // PUBLIC: `row` has no `requires`; its promise fixes the reply, every word of the register, of the reports and around them.
 #![tactic(auto)]
 
-ghost use Rattle.std.specs.Prelude.{◌≡◌, not, ◌+◌, ◌*◌, ◌≤◌, ltb, length, take};
+ghost use Rattle.std.specs.Prelude.{◌≡◌, not, ◌+◌, ◌*◌, ◌≤◌, ltb, length};
 ghost use Rattle.rules.specs.steps.Codes.{plain_sheet};
 ghost use Rattle.limits.specs.Limits.{step_width, report_width};
 ghost use Rattle.layout.specs.Rows.{splice};
@@ -13,14 +13,7 @@ ghost use Rattle.checks.specs.Promises.{TablePromise};
 ghost use Rattle.rows.specs.Rows.{steps_in, report_of, words_after, reports_of, RowPromise};
 ghost use Rattle.rows.specs.Meaning.{rowed_is};
 
-use replies::{Answer, Refusal};
-
-// What a row comes to: its steps are done, or it is refused and none is.
-#[derive(Clone, Copy)]
-pub enum Rowed {
-    Done,
-    Refused(Refusal),
-}
+use replies::{Refusal, Report};
 
 // Whether so many reports fit from a place on. Nothing is added up that could wrap, whatever the place.
 fn has_room(length: usize, place: usize, count: usize) -> bool
@@ -33,7 +26,13 @@ fn has_room(length: usize, place: usize, count: usize) -> bool
 }
 
 // Puts the report of a step at a place.
-fn put_report(reports: &mut [u32], at: usize, handler: u32, code: u32, answer: Answer)
+fn put_report(
+    reports: &mut [u32],
+    at: usize,
+    handler: u32,
+    code: u32,
+    answer: Result<Report, Refusal>,
+)
     requires { at + report_width ≤ length reports.old }
     ensures { reports.new
         ≡ splice at report_width (report_of (record { handler = handler; code = code; value = 0 }) (reply_is answer)) reports.old }
@@ -46,26 +45,18 @@ fn put_report(reports: &mut [u32], at: usize, handler: u32, code: u32, answer: A
     reports[at + places::REPORT_CELL] = numbers.cell;
 }
 
-// Takes so many steps of a row by the table of the plain sheet, and puts the report of each behind that of the one before it.
-fn take_steps(
-    words: &mut [u32],
-    table: &[u8],
-    steps: &[u32],
-    reports: &mut [u32],
-    place: usize,
-    count: usize,
-)
+// Takes the steps of a row by the table of the plain sheet, and puts the report of each behind that of the one before it.
+fn take_steps(words: &mut [u32], table: &[u8], steps: &[u32], reports: &mut [u32], place: usize)
     requires table_promise { TablePromise plain_sheet table.now }
-    requires well_formed { WellFormed words.old × (step_width * count ≤ length steps.now) × (place + report_width * count ≤ length reports.old) }
-    ensures { (words.new ≡ words_after words.old (take count (steps_in steps.now)))
+    requires well_formed { WellFormed words.old × (place + report_width * length (steps_in steps.now) ≤ length reports.old) }
+    ensures { (words.new ≡ words_after words.old (steps_in steps.now))
         × (reports.new
-        ≡ splice place (report_width * count) (reports_of words.old (take count (steps_in steps.now))) reports.old) }
+        ≡ splice place (report_width * length (steps_in steps.now)) (reports_of words.old (steps_in steps.now)) reports.old) }
 {
-    for k in 0..count {
-        let at = limits::STEP_WIDTH * k;
-        let handler = steps[at + places::STEP_HANDLER];
-        let code = steps[at + places::STEP_CODE];
-        let value = steps[at + places::STEP_VALUE];
+    for (k, step) in steps.chunks_exact(limits::STEP_WIDTH).enumerate() {
+        let handler = step[places::STEP_HANDLER];
+        let code = step[places::STEP_CODE];
+        let value = step[places::STEP_VALUE];
         let entry = checks::entry_by(table, code);
         let turned = turns::step_formed(words, handler, entry, value);
         put_report(
@@ -78,19 +69,24 @@ fn take_steps(
     }
 }
 
-// Takes the steps of a row, each on what the one before it left, and reports each.
-pub fn row(words: &mut [u32], steps: &[u32], reports: &mut [u32], place: usize) -> Rowed
+// Takes the steps of a row, each on what the one before it left, and reports each; or refuses the row, and takes none.
+pub fn row(
+    words: &mut [u32],
+    steps: &[u32],
+    reports: &mut [u32],
+    place: usize,
+) -> Result<(), Refusal>
     ensures { RowPromise words.old steps.now reports.old place (rowed_is result)
         words.new reports.new }
 {
     if !formed::well_formed(words) {
-        return Rowed::Refused(Refusal::NotWellFormed);
+        return Err(Refusal::NotWellFormed);
     }
     let count = steps.len() / limits::STEP_WIDTH;
     if !has_room(reports.len(), place, count) {
-        return Rowed::Refused(Refusal::NoRoom);
+        return Err(Refusal::NoRoom);
     }
     let table = checks::plain_table();
-    take_steps(words, &table, steps, reports, place, count);
-    Rowed::Done
+    take_steps(words, &table, steps, reports, place);
+    Ok(())
 }

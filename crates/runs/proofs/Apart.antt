@@ -4,8 +4,8 @@ use mathlib.Core.Path.{◌≡◌, refl, ap}
 use mathlib.Core.Option.{Option, none, some}
 use Rattle.rules.proofs.Determined.{Determined, determined}
 use Rattle.rules.proofs.steps.Numbers.{Injective, read_back}
-use Rattle.replies.specs.declared.Answer.{Answer}
-use Rattle.replies.specs.declared.Answer.TheVariants.{Reported, Refused}
+use Rattle.std.specs.Prelude.{Result, Ok, Err}
+use Rattle.replies.specs.declared.Report.{Report}
 use Rattle.replies.specs.declared.Refusal.{Refusal}
 use Rattle.replies.specs.declared.Refusal.TheVariants.{NotWellFormed}
 use Rattle.replies.proofs.Apart.{answer_back, answer_same}
@@ -15,9 +15,9 @@ use Rattle.lines.specs.Lines.{Line, line_is}
 use Rattle.runs.specs.Stopping.{stops_at, stops_shown}
 
 -- The refusal of an answer; any other where it is none.
-refusal_in : Answer → Refusal
-refusal_in (Refused refusal) = refusal
-refusal_in (Reported report) = NotWellFormed
+refusal_in : Result Report Refusal → Refusal
+refusal_in (Err refusal) = refusal
+refusal_in (Ok report) = NotWellFormed
 
 -- What is shown, by the line.
 shown_back : Option Line → Shown
@@ -31,7 +31,7 @@ shown_back (some line) = by_code line.code
 shown_same : (place : ℕ) (shown : Shown) → shown_back (line_is place shown) ≡ shown
 unfolding shown_back refusal_in
 shown_same place Nothing = refl
-shown_same place (NoStep handler refusal) = ap (λ answer. NoStep handler (refusal_in answer)) (answer_same (Refused refusal))
+shown_same place (NoStep handler refusal) = ap (λ answer. NoStep handler (refusal_in answer)) (answer_same (Err refusal))
 shown_same place (Asked handler code answer) = ap (Asked handler code) (answer_same answer)
 
 -- Different things shown at a place are different lines, or one is none.

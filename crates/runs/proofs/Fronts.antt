@@ -1,5 +1,5 @@
 -- A file that is too long comes to the same whatever follows: one byte more than a file may have shows it.
-use Rattle.std.proofs.Common.{◌≡◌, ℕ, ◌+◌, ◌<◌, ◌≤◌, List, length}
+use Rattle.std.proofs.Common.{◌≡◌, ℕ, ◌+◌, ◌<◌, List, length}
 use Rattle.std.proofs.Common.{take, sym, ap, ◌∙◌, ⊎_elim, take_all, length-take-le, arith}
 use Rattle.std.proofs.lemmas.Bool.{cases_lt}
 use Rattle.rules.specs.steps.Replies.{bad_file}

@@ -7,3 +7,4 @@ pub mod Places
 pub mod RunOf
 pub mod GoesOn
 pub mod Fronts
+mod Stops

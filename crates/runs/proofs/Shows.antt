@@ -1,10 +1,8 @@
 -- What a place shows and leaves, by what comes next there, whoever answers its steps.
-use Prim.Native.Nat.{ℕ}
-use mathlib.Core.Path.{◌≡◌, refl, sym, ap, ◌∙◌, subst}
-use mathlib.Core.List.{List}
-use mathlib.Core.Option.{some}
+use Rattle.std.proofs.Common.{ℕ, ◌≡◌, refl, sym, ap, ◌∙◌, subst, List, ◌⊎◌, inl, inr, Result}
+use Rattle.std.proofs.Math.Option.{some}
 use Rattle.rules.specs.steps.Replies as Rules
-use Rattle.replies.specs.declared.Answer.{Answer}
+use Rattle.replies.specs.declared.Report.{Report}
 use Rattle.replies.specs.declared.Refusal.{Refusal}
 use Rattle.replies.specs.Meaning.{refusal_is, reply_is}
 use Rattle.schedule.specs.declared.Next.{Next}
@@ -24,14 +22,20 @@ module _ {player : Player} {words : List ℕ} where
   shown_as {shown = shown} {after} is = subst (λ next. NextShown player words (next_is next) shown after) (sym is)
 
   -- A file that is refused shows nothing,
-  pub rejected_shown : {refusal : Rules.Refusal} → NextShown player words (rejected refusal) Nothing words
+  rejected_shown : {refusal : Rules.Refusal} → NextShown player words (rejected refusal) Nothing words
   unfolding line_for words_for
   rejected_shown = record { line = λ place. refl; left = refl }
 
   -- nor does a place beyond the order,
-  pub over_shown : NextShown player words over Nothing words
+  over_shown : NextShown player words over Nothing words
   unfolding line_for words_for
   over_shown = record { line = λ place. refl; left = refl }
+
+  -- so either shows nothing;
+  pub nothing_shown : {next : Next} → ((refusal : Refusal) × (next ≡ Next.Rejected refusal)) ⊎ (next ≡ Next.Over)
+      → NextShown player words (next_is next) Nothing words
+  nothing_shown (inl (refusal, is)) = shown_as is rejected_shown
+  nothing_shown (inr is) = shown_as is over_shown
 
   -- a refusal shows itself,
   pub refused_shown : {handler : ℕ} {refusal : Refusal} → NextShown player words (refused handler (refusal_is refusal)) (NoStep handler refusal) words
@@ -39,7 +43,7 @@ module _ {player : Player} {words : List ℕ} where
   refused_shown = record { line = λ place. refl; left = refl }
 
   -- and a step that is asked shows the reply to it.
-  pub asked_shown : {handler code value : ℕ} {answer : Answer} {after : List ℕ}
+  pub asked_shown : {handler code value : ℕ} {answer : Result Report Refusal} {after : List ℕ}
       → PlayerStepPromise player words handler code value (reply_is answer) after
       → NextShown player words (taken handler (record { code = code; value = value })) (Asked handler code answer) after
   unfolding line_for words_for

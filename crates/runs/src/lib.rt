@@ -13,25 +13,25 @@ ghost use Rattle.runs.specs.ByPlaces.{NextShown, PlacePromise};
 ghost use Rattle.runs.specs.Stopping.{says_too_many, StopPromise};
 
 use lines::Shown;
-use replies::{Answer, End, Opened};
+use replies::{CellEnd, Refusal, Report};
 use schedule::{Cursors, Next};
 
 // Who answers the steps of a run.
-#[derive(Clone, Copy)]
+#[derive(Clone, Copy, Debug, PartialEq, Eq)]
 pub enum Player {
     Register,
     Judge,
 }
 
 // What a place shows, and the cursors afterwards.
-#[derive(Clone, Copy)]
+#[derive(Clone, Copy, Debug, PartialEq, Eq)]
 pub struct Placed {
     pub shown: Shown,
     pub cursors: Cursors,
 }
 
 // Opens the words of a player for m cells and n handlers.
-pub fn open(player: Player, words: &mut [u32], m: u32, n: u32) -> Opened
+pub fn open(player: Player, words: &mut [u32], m: u32, n: u32) -> Result<(), Refusal>
     ensures { PlayerOpeningPromise (player_is player) words.old m n (opening_is result) words.new }
 {
     match player {
@@ -41,7 +41,13 @@ pub fn open(player: Player, words: &mut [u32], m: u32, n: u32) -> Opened
 }
 
 // Asks a player for the step of a handler.
-pub fn step(player: Player, words: &mut [u32], handler: u32, code: u32, value: u32) -> Answer
+pub fn step(
+    player: Player,
+    words: &mut [u32],
+    handler: u32,
+    code: u32,
+    value: u32,
+) -> Result<Report, Refusal>
     ensures { PlayerStepPromise (player_is player) words.old handler code value (reply_is result) words.new }
 {
     match player {
@@ -51,7 +57,7 @@ pub fn step(player: Player, words: &mut [u32], handler: u32, code: u32, value: u
 }
 
 // What a cell holds and its own number, as a player's words say them.
-pub fn cell_end(player: Player, words: &[u32], c: u32) -> End
+pub fn cell_end(player: Player, words: &[u32], c: u32) -> Option<CellEnd>
     ensures { PlayerEndPromise (player_is player) words.now c (end_is result) }
 {
     match player {
@@ -65,8 +71,7 @@ fn show_next(player: Player, next: Next, words: &mut [u32]) -> Shown
     ensures { NextShown (player_is player) words.old (next_is next) result words.new }
 {
     match next {
-        Next::Rejected(_) => Shown::Nothing,
-        Next::Over => Shown::Nothing,
+        Next::Rejected(_) | Next::Over => Shown::Nothing,
         Next::Refused { handler, refusal } => Shown::NoStep { handler, refusal },
         Next::Taken {
             handler,
@@ -95,22 +100,18 @@ pub fn play_place(
         (line_is place result.shown) result.cursors.at words.new }
 {
     let found = schedule::next_step(file, cursors, place);
-    let next = found.next;
-    let after = found.cursors;
     Placed {
-        shown: show_next(player, next, words),
-        cursors: after,
+        shown: show_next(player, found.next, words),
+        cursors: found.cursors,
     }
 }
 
 // Whether an answer refuses a 65th commit.
-fn is_too_many(answer: Answer) -> bool
+#[tactic(auto, using(crate::proofs::Stops::others_few))]
+fn is_too_many(answer: Result<Report, Refusal>) -> bool
     ensures { result ≡ says_too_many (reply_is answer) }
 {
-    match answer {
-        Answer::Refused(refusal) => replies::refusal_number(refusal) == 33,
-        Answer::Reported(_) => false,
-    }
+    matches!(answer, Err(Refusal::TooManyCommits))
 }
 
 // Whether a run stops at what a place shows.
@@ -118,15 +119,7 @@ pub fn stops_at(shown: Shown) -> bool
     ensures { StopPromise shown result }
 {
     match shown {
-        Shown::Asked {
-            handler: _,
-            code: _,
-            answer,
-        } => is_too_many(answer),
-        Shown::Nothing => false,
-        Shown::NoStep {
-            handler: _,
-            refusal: _,
-        } => false,
+        Shown::Asked { answer, .. } => is_too_many(answer),
+        Shown::Nothing | Shown::NoStep { .. } => false,
     }
 }

@@ -1,29 +1,40 @@
 -- The admission of a file gives 30 and 15 exactly when docs/RULES.md says, and is sound exactly for a file that is run.
-use Prim.Native.Nat.{ℕ, ◌<◌}
-use mathlib.Core.Path.{◌≡◌, refl, sym, ◌∙◌}
-use mathlib.Core.Bool.{Bool, true, false, not}
-use mathlib.Core.List.{List}
-use mathlib.Core.Logic.{◌↔◌, ◌⊎◌, inl, inr}
-use mathlib.Core.Option.{Option, none, some, some-ne-none}
-use native.Mathlib.Omega.{arith}
+use Rattle.std.proofs.Common.{ℕ, ◌≡◌, ◌<◌, Bool, true, false, not, MatchBool, List, length, get_or, HoldsAt, ◌↔◌, ◌⊎◌, inl, inr}
+use Rattle.std.proofs.Common.{refl, sym, subst, ◌∙◌, arith, zero-add}
+use Rattle.std.proofs.Math.Option.{Option, none, some, some-ne-none}
+use Rattle.std.specs.List.{AllWithin, range_with_len}
+use Rattle.std.proofs.lemmas.List.FromFn.{length-range_with_len, get_or-range_with_len}
 use borrow.Author.Tests.{not-true, not-false}
-use Rattle.rules.specs.steps.Replies.{Refusal, bad_file, unknown_step, already_open, no_cell, no_handler, no_room, not_open, not_well_formed}
+use Rattle.rules.specs.steps.Replies.{Refusal, bad_file, unknown_step}
 use Rattle.rules.specs.steps.Checks.{first_hit}
 use Rattle.rules.proofs.steps.Given.{exactly}
 use Rattle.rules.proofs.steps.Tables.{by, both_ways, some_true}
 use Rattle.layout.specs.WellFormed.{every_below}
 use Rattle.layout.proofs.Tested.{every_iff}
 use Rattle.limits.proofs.Ranges.{answers_no}
-use Rattle.schedule.specs.Sound.{handlers_in, cells_in, script_in, is_sound_file}
+use Rattle.schedule.specs.Sound.{handlers_in, cells_in, script_in, SoundFile, is_sound_file}
 use Rattle.schedule.specs.Scripts.{is_whole}
 use Rattle.schedule.specs.Admitting.{Admission, refused, all_whole, file_checks, file_refusal, admitted, admission_of, GoodFile}
 use Rattle.schedule.specs.Admitting.{FileGiven, unsound, spoilt, AdmissionPromise}
-use Rattle.schedule.proofs.Sounds.{file_tested, not_sound_file}
-use Rattle.rules.specs.steps.Replies.{out_of_range, sheet_full, too_many_commits, too_short, used_up}
+use Rattle.schedule.proofs.Sounds.{file_tested, sound_tested, not_sound_file}
 
 -- Where one place fails the test, not every place passes it.
 pub some_fails : (n : ℕ) (test : ℕ → Bool) (k : ℕ) → k < n → test k ≡ false → false ≡ every_below n test
 some_fails n test k below fails = answers_no _ (λ e. both_ways ((every_iff n test).0 e k below) fails)
+
+-- The place at a place of the row of places is itself.
+place_there : (n k : ℕ) → k < n → get_or (range_with_len 0 n) k 0 ≡ k
+place_there n k below = get_or-range_with_len 0 n k 0 below ∙ zero-add k
+
+-- What `all` answers of a test over the places below n is whether every place passes it.
+pub every_answer : (n : ℕ) (test : ℕ → Bool) (answer : Bool) → let places = range_with_len 0 n in
+    MatchBool answer (AllWithin (λ k. test k ≡ true) places 0 (length places))
+    ((k : ℕ) × (k < length places) × HoldsAt (λ k. test k ≡ false) places k) → answer ≡ every_below n test
+every_answer n test true all = sym ((every_iff n test).1
+    (λ k below. subst (λ place. test place ≡ true) (place_there n k below) (all k 0 (omega arith) (rw length-range_with_len below))))
+every_answer n test false (k, inside, fails) =
+    let below = rw length-range_with_len at inside in
+    some_fails n test k below (subst (λ place. test place ≡ false) (place_there n k below) (fails 0))
 
 -- Where not every place passes the test, one place fails it.
 one_fails : (n : ℕ) (test : ℕ → Bool) → every_below n test ≡ false → (k : ℕ) × (k < n) × (test k ≡ false)
@@ -40,16 +51,20 @@ module _ {file : List ℕ} where
   unfolding admission_of admitted file_refusal file_checks first_hit
   admitted_bad bad = record { replied = rw bad; left = refl }
 
-  module _ (sound : is_sound_file file ≡ true) where
+  -- The refusal of a file that is not sound.
+  pub admitted_unsound : {refusal : Refusal} → (¬ SoundFile file) × (refusal ≡ bad_file) → AdmissionPromise file (refused refusal)
+  admitted_unsound (bad, is) = rw is (admitted_bad (sym (not_sound_file bad)))
+
+  module _ (sound : SoundFile file) where
     -- A sound file with a script that is not whole.
     pub admitted_spoilt : all_whole file ≡ false → AdmissionPromise file (refused unknown_step)
     unfolding admission_of admitted file_refusal file_checks first_hit
-    admitted_spoilt not_whole = record { replied = rw (sound, not_whole); left = refl }
+    admitted_spoilt not_whole = record { replied = rw (sound_tested file sound, not_whole); left = refl }
 
     -- A sound file whose scripts are whole.
     pub admitted_sound : all_whole file ≡ true → AdmissionPromise file (Admission.sound (handlers_in file) (cells_in file))
     unfolding admission_of admitted file_refusal file_checks first_hit
-    admitted_sound whole = record { replied = rw (sound, whole); left = refl }
+    admitted_sound whole = record { replied = rw (sound_tested file sound, whole); left = refl }
 
 -- ── Exactly then ──────────────────────────────────────────────────────
 
@@ -64,19 +79,8 @@ module _ (file : List ℕ) where
   file_exactly = exactly (FileGiven file) hits decided
     where
       hits : (refusal : Refusal) → FileGiven file refusal → file_refusal file ≡ some refusal
-      hits not_well_formed given = elim given [ ]
-      hits no_handler given = elim given [ ]
-      hits no_cell given = elim given [ ]
-      hits already_open given = elim given [ ]
-      hits not_open given = elim given [ ]
-      hits out_of_range given = elim given [ ]
-      hits too_short given = elim given [ ]
-      hits used_up given = elim given [ ]
-      hits too_many_commits given = elim given [ ]
-      hits sheet_full given = elim given [ ]
-      hits no_room given = elim given [ ]
-      hits bad_file (unsound out) = rw (← not_sound_file out)
-      hits unknown_step (spoilt handler sound below fails) =
+      hits _ (unsound out) = rw (← not_sound_file out)
+      hits _ (spoilt handler sound below fails) =
           rw ((file_tested file).1 sound, ← some_fails (handlers_in file) whole_at handler below fails)
 
       decided : ((refusal : Refusal) × FileGiven file refusal) ⊎ (file_refusal file ≡ none)

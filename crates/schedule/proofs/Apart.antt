@@ -1,32 +1,28 @@
 -- Nothing is lost in what the answers mean: different answers are different admissions, refusals and steps. Each can be read back.
-use Prim.Native.Nat.{ℕ}
-use mathlib.Core.Path.{◌≡◌, refl, ap}
-use mathlib.Core.List.{List}
-use mathlib.Core.Option.{Option, none, some}
+use Rattle.std.proofs.Common.{ℕ, ◌≡◌, refl, ap, List, Result, Ok, Err}
+use Rattle.std.proofs.Math.Option.{Option, none, some}
 use Rattle.rules.specs.steps.Replies as Rules
 use Rattle.rules.proofs.Determined.{Determined, determined, one_outcome}
 use Rattle.rules.proofs.steps.Numbers.{Injective, read_back}
 use Rattle.replies.proofs.Apart.{refusal_back, refusal_same}
+use Rattle.replies.specs.declared.Refusal.{Refusal}
 use Rattle.schedule.specs.Admitting as Admitting
 use Rattle.schedule.specs.Finding.{PartPromise, ScriptPromise}
 use Rattle.schedule.specs.Taking as Taking
-use Rattle.schedule.specs.declared.Admitted.{Admitted}
-use Rattle.schedule.specs.declared.Admitted.TheVariants.{Sound}
-use Rattle.schedule.specs.declared.Found.{Found}
-use Rattle.schedule.specs.declared.Found.TheVariants.{Script, Missing}
+use Rattle.schedule.specs.declared.Sizes.{Sizes}
 use Rattle.schedule.specs.declared.Part.{Part}
 use Rattle.schedule.specs.declared.Cursors.{Cursors}
 use Rattle.schedule.specs.declared.Next.{Next}
 use Rattle.schedule.specs.declared.Next.TheVariants.{Over, Refused, Taken}
 use Rattle.schedule.specs.Meaning.{admission_is, found_is, next_is}
 
-admitted_back : Admitting.Admission → Admitted
-admitted_back (Admitting.sound n m) = Sound n m
-admitted_back (Admitting.Admission.refused refusal) = Admitted.Rejected (refusal_back refusal)
+admitted_back : Admitting.Admission → Result Sizes Refusal
+admitted_back (Admitting.sound n m) = Ok (record { handlers = n; cells = m })
+admitted_back (Admitting.Admission.refused refusal) = Err (refusal_back refusal)
 
-found_back : Option Rules.Refusal → Found
-found_back none = Script
-found_back (some refusal) = Missing (refusal_back refusal)
+found_back : Option Rules.Refusal → Result Unit Refusal
+found_back none = Ok tt
+found_back (some refusal) = Err (refusal_back refusal)
 
 next_back : Taking.Next → Next
 next_back (Taking.rejected refusal) = Next.Rejected (refusal_back refusal)
@@ -34,15 +30,15 @@ next_back Taking.over = Over
 next_back (Taking.Next.refused handler refusal) = Refused handler (refusal_back refusal)
 next_back (Taking.taken handler step) = Taken handler step.code step.value
 
-admitted_same : (admitted : Admitted) → admitted_back (admission_is admitted) ≡ admitted
+admitted_same : (admitted : Result Sizes Refusal) → admitted_back (admission_is admitted) ≡ admitted
 unfolding admitted_back
-admitted_same (Sound n m) = refl
-admitted_same (Admitted.Rejected refusal) = ap Admitted.Rejected (refusal_same refusal)
+admitted_same (Ok sizes) = refl
+admitted_same (Err refusal) = ap Err (refusal_same refusal)
 
-found_same : (found : Found) → found_back (found_is found) ≡ found
+found_same : (found : Result Unit Refusal) → found_back (found_is found) ≡ found
 unfolding found_back
-found_same Script = refl
-found_same (Missing refusal) = ap Missing (refusal_same refusal)
+found_same (Ok tt) = refl
+found_same (Err refusal) = ap Err (refusal_same refusal)
 
 next_same : (next : Next) → next_back (next_is next) ≡ next
 unfolding next_back

@@ -1,13 +1,8 @@
 -- Each number of an order place, and of a script that is asked for, is given exactly then.
-use Prim.Native.Nat.{ℕ}
-use mathlib.Core.Path.{◌≡◌}
-use mathlib.Core.List.{List}
-use mathlib.Core.Logic.{◌↔◌, ◌⊎◌, inl, inr}
-use mathlib.Core.Option.{none, some}
-use lib.Dec.{leb}
-use lib.ListN.{length}
+use Rattle.std.proofs.Common.{ℕ, ◌≡◌, List, ◌↔◌, ◌⊎◌, inl, inr, length, leb}
+use Rattle.std.proofs.Math.Option.{none, some}
 use borrow.Author.Tests.{leb-true, leb-false, le-leb, lt-leb}
-use Rattle.rules.specs.steps.Replies.{Refusal, bad_file, no_handler, used_up, unknown_step, already_open, no_cell, no_room, not_open}
+use Rattle.rules.specs.steps.Replies.{Refusal, bad_file, no_handler, used_up, unknown_step}
 use Rattle.rules.specs.steps.Checks.{first_hit}
 use Rattle.rules.proofs.steps.Tables.{by, both_ways}
 use Rattle.rules.proofs.steps.Given.{exactly}
@@ -16,7 +11,6 @@ use Rattle.schedule.specs.Finding.{script_checks, script_refusal}
 use Rattle.schedule.specs.Taking.{Cursors, left_of, is_spoilt, left_checks, place_checks}
 use Rattle.schedule.specs.Given.{PlaceGiven, nothing_left, no_step_there, ScriptGiven, unsound}
 use Rattle.schedule.proofs.Sounds.{file_tested, not_sound_file}
-use Rattle.rules.specs.steps.Replies.{not_well_formed, out_of_range, sheet_full, too_many_commits, too_short}
 
 module _ (file : List ℕ) (cursors : Cursors) (handler : ℕ) where
   -- The checks of an order place give 11, 32 and 15 exactly then, and no other number.
@@ -25,19 +19,9 @@ module _ (file : List ℕ) (cursors : Cursors) (handler : ℕ) where
   place_exactly = exactly (PlaceGiven file cursors handler) hits decided
     where
       hits : (refusal : Refusal) → PlaceGiven file cursors handler refusal → first_hit (place_checks file cursors handler) ≡ some refusal
-      hits not_well_formed given = elim given [ ]
-      hits no_cell given = elim given [ ]
-      hits already_open given = elim given [ ]
-      hits not_open given = elim given [ ]
-      hits out_of_range given = elim given [ ]
-      hits too_short given = elim given [ ]
-      hits bad_file given = elim given [ ]
-      hits too_many_commits given = elim given [ ]
-      hits sheet_full given = elim given [ ]
-      hits no_room given = elim given [ ]
-      hits no_handler (PlaceGiven.beyond outside) = rw (le-leb (handlers_in file) handler outside)
-      hits used_up (nothing_left inside empty) = rw (lt-leb (handlers_in file) handler inside, le-leb (length (left_of file cursors handler)) 0 empty)
-      hits unknown_step (no_step_there inside left spoilt) =
+      hits _ (PlaceGiven.beyond outside) = rw (le-leb (handlers_in file) handler outside)
+      hits _ (nothing_left inside empty) = rw (lt-leb (handlers_in file) handler inside, le-leb (length (left_of file cursors handler)) 0 empty)
+      hits _ (no_step_there inside left spoilt) =
           rw (lt-leb (handlers_in file) handler inside, lt-leb (length (left_of file cursors handler)) 0 left, spoilt)
 
       decided : ((refusal : Refusal) × PlaceGiven file cursors handler refusal) ⊎ (first_hit (place_checks file cursors handler) ≡ none)
@@ -56,19 +40,8 @@ module _ (file : List ℕ) (handler : ℕ) where
   script_exactly = exactly (ScriptGiven file handler) hits decided
     where
       hits : (refusal : Refusal) → ScriptGiven file handler refusal → script_refusal file handler ≡ some refusal
-      hits not_well_formed given = elim given [ ]
-      hits no_cell given = elim given [ ]
-      hits already_open given = elim given [ ]
-      hits not_open given = elim given [ ]
-      hits unknown_step given = elim given [ ]
-      hits out_of_range given = elim given [ ]
-      hits too_short given = elim given [ ]
-      hits used_up given = elim given [ ]
-      hits too_many_commits given = elim given [ ]
-      hits sheet_full given = elim given [ ]
-      hits no_room given = elim given [ ]
-      hits bad_file (unsound out) = rw (← not_sound_file out)
-      hits no_handler (ScriptGiven.beyond sound outside) = rw ((file_tested file).1 sound, le-leb (handlers_in file) handler outside)
+      hits _ (unsound out) = rw (← not_sound_file out)
+      hits _ (ScriptGiven.beyond sound outside) = rw ((file_tested file).1 sound, le-leb (handlers_in file) handler outside)
 
       decided : ((refusal : Refusal) × ScriptGiven file handler refusal) ⊎ (script_refusal file handler ≡ none)
       decided = by (is_sound_file file)

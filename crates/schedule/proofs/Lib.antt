@@ -1,5 +1,6 @@
 -- Laws of the schedule file, in the order in which they are best read.
 pub mod Sounds
+pub mod Entries
 pub mod Wholes
 pub mod Admits
 pub mod Finds

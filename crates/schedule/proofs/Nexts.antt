@@ -1,11 +1,6 @@
 -- The next step at an order place by its ways, and the cursors that it leaves.
-use Prim.Native.Nat.{ℕ, ◌+◌, ◌≤◌, ◌<◌}
-use mathlib.Core.Path.{◌≡◌, sym, ap, ◌∙◌}
-use mathlib.Core.Bool.{true, false}
-use mathlib.Core.List.{List}
-use mathlib.Core.Option.{some}
-use native.Mathlib.Omega.{arith}
-use lib.ListN.{length, set}
+use Rattle.std.proofs.Common.{ℕ, ◌≡◌, ◌+◌, ◌≤◌, ◌<◌, true, List, length, set, refl, sym, ap, ◌∙◌, arith}
+use Rattle.std.proofs.Math.Option.{some}
 use borrow.Author.Tests.{le-leb, lt-leb}
 use Rattle.rules.specs.steps.Codes.{plain_sheet}
 use Rattle.rules.specs.steps.Replies.{Refusal, bad_file, no_handler}
@@ -13,12 +8,12 @@ use Rattle.rules.specs.steps.Checks.{first_hit}
 use Rattle.rules.proofs.steps.Tables.{by}
 use Rattle.limits.specs.Limits.{most_file_bytes}
 use Rattle.schedule.specs.Bytes.{byte_at}
-use Rattle.schedule.specs.Sound.{handlers_in, table_start, order_in, is_sound_file}
+use Rattle.schedule.specs.Sound.{handlers_in, table_start, order_in, SoundFile, is_sound_file}
 use Rattle.schedule.specs.Scripts.{ScriptStep, value_long}
 use Rattle.schedule.specs.Taking.{Cursors, cursor_of, Next, rejected, over, refused, taken, left_of, left_checks, place_checks, answered}
-use Rattle.schedule.specs.Taking.{named_next, next_of, cursors_after, places_in, NextPromise}
+use Rattle.schedule.specs.Taking.{named_next, next_of, cursors_after, places_in, NextPromise, PlacesPromise}
 use Rattle.schedule.specs.Fronts.{StepInFront, NamedNext}
-use Rattle.schedule.proofs.Sounds.{file_tested, body_short}
+use Rattle.schedule.proofs.Sounds.{file_tested, sound_tested, not_sound_file, body_short}
 
 -- ── The handler that is named ─────────────────────────────────────────
 
@@ -67,9 +62,10 @@ module _ (file : List ℕ) (cursors : Cursors) (handler : ℕ) where
 
 module _ (file : List ℕ) (cursors : Cursors) (place : ℕ) where
   -- A file that is not sound.
-  pub next_rejected : is_sound_file file ≡ false → NextPromise file cursors place (rejected bad_file) cursors
+  pub next_unsound : {refusal : Refusal} → (¬ SoundFile file) × (refusal ≡ bad_file)
+      → NextPromise file cursors place (rejected refusal) cursors
   unfolding next_of cursors_after
-  next_rejected bad = record { replied = rw bad; left = rw bad }
+  next_unsound (unsound, is) = let bad = sym (not_sound_file unsound) in rw is (record { replied = rw bad; left = rw bad })
 
   module _ (sound : is_sound_file file ≡ true) where
     -- A place beyond the order.
@@ -88,6 +84,17 @@ module _ (file : List ℕ) (cursors : Cursors) (place : ℕ) where
         record { replied = rw (sound, there, ← is) named.replied; left = rw (sound, there, ← is) named.left }
 
 -- ── The places ────────────────────────────────────────────────────────
+
+module _ {file : List ℕ} where
+  -- None in a file that is not sound,
+  pub places_none : ¬ SoundFile file → PlacesPromise file 0
+  unfolding places_in
+  places_none unsound = record { replied = rw (← not_sound_file unsound); left = refl }
+
+  -- and else as many as the order has bytes.
+  pub places_there : SoundFile file → PlacesPromise file (length (order_in file))
+  unfolding places_in
+  places_there sound = record { replied = rw (sound_tested file sound); left = refl }
 
 -- There are no more places than a file has bytes.
 pub places_few : (file : List ℕ) → places_in file ≤ most_file_bytes

@@ -1,22 +1,13 @@
 -- The test of a table and of a file answers exactly the proposition, and each body of a sound table lies in the file.
-use Prim.Native.Nat.{ℕ, zero, suc, ◌+◌, ◌-◌, ◌≤◌, ◌<◌}
-use mathlib.Core.Path.{◌≡◌, refl, ap, ◌∙◌}
-use mathlib.Core.Bool.{true, false}
-use mathlib.Core.List.{List}
-use mathlib.Core.Logic.{◌↔◌}
-use native.Mathlib.Numerals.{add-one}
-use native.Mathlib.Omega.{arith}
-use lib.Dec.{eqb}
-use lib.ListN.{length, take, drop, length-take, length-drop}
-use borrow.Author.Tests.{eqb-true, eq-eqb, le-leb}
-use Rattle.rules.specs.steps.Checks.{in_range}
+use Rattle.std.proofs.Common.{ℕ, zero, suc, ◌≡◌, ◌+◌, ◌-◌, ◌≤◌, ◌<◌, true, false, List, ◌↔◌, length, eqb, refl, sym, ap, ◌∙◌, arith, add-one, below_more}
+use Rattle.std.proofs.Common.{length-take, length-drop}
+use borrow.Author.Tests.{eqb-true, eq-eqb}
 use Rattle.rules.proofs.steps.Given.{range_tested}
-use Rattle.rules.proofs.steps.Tables.{and_iff, leb_iff, same_test}
+use Rattle.rules.proofs.steps.Tables.{and_iff, leb_iff}
 use Rattle.layout.proofs.Tested.{every_iff}
 use Rattle.limits.proofs.Ranges.{answers_no}
-use Rattle.schedule.specs.Bytes.{entry_at, offset_of, length_of, bytes_at, entry_body}
-use Rattle.schedule.specs.declared.Part.{Part}
-use Rattle.schedule.specs.Sound.{handlers_in, cells_in, table_start, entries_in, due_at, SoundTable, SoundFile, is_placed, is_sound_table, is_sound_file}
+use Rattle.schedule.specs.Bytes.{entry_at, offset_of, length_of, entry_body}
+use Rattle.schedule.specs.Sound.{due_at, SoundTable, SoundFile, is_placed, is_sound_table, is_sound_file}
 
 -- The test of equality answers the equality.
 eqb_iff : (a b : ℕ) → (eqb a b ≡ true) ↔ (a ≡ b)
@@ -50,27 +41,18 @@ file_tested file = (to, from)
     from : SoundFile file → is_sound_file file ≡ true
     from sound = simp (and_iff, leb_iff, range_tested, table_tested) (sound.short, (sound.range, sound.table))
 
--- A table that is not sound is answered with no.
-pub not_sound_table : {file : List ℕ} {start entries : ℕ} → (SoundTable file start entries → ⊥) → false ≡ is_sound_table file start entries
-not_sound_table out = answers_no _ (λ e. out ((table_tested _ _ _).0 e))
+-- A sound file is answered with yes,
+pub sound_tested : (file : List ℕ) → SoundFile file → is_sound_file file ≡ true
+sound_tested file = (file_tested file).1
 
--- A file that is not sound is answered with no.
+-- and one that is not sound with no.
 pub not_sound_file : {file : List ℕ} → (SoundFile file → ⊥) → false ≡ is_sound_file file
 not_sound_file out = answers_no _ (λ e. out ((file_tested _).0 e))
 
--- A sound file has its first two bytes.
-pub head_there : {file : List ℕ} → SoundFile file → 2 ≤ length file
-head_there sound = omega (arith, sound.table.whole)
-
 -- ── Bodies one after another ──────────────────────────────────────────
 
--- The first body begins directly after the table.
-pub due_first : (file : List ℕ) (start entries : ℕ) → due_at file start entries 0 ≡ entry_at start entries
-unfolding due_at
-due_first file start entries = refl
-
 -- After body k the next begins where it ends.
-pub due_next : (file : List ℕ) (start entries k : ℕ)
+due_next : (file : List ℕ) (start entries k : ℕ)
     → due_at file start entries (k + 1) ≡ offset_of file start k + length_of file start k
 unfolding due_at
 due_next file start entries k = rw add-one
@@ -89,30 +71,48 @@ module _ {file : List ℕ} {start entries : ℕ} (sound : SoundTable file start 
   body_inside k h =
       omega (arith, due_next file start entries k, due_inside (entries - (k + 1)) (k + 1) (omega arith))
 
--- Where the table lies in the file and every body begins where it has to, the table is sound just when the next would begin at
--- the file's end.
-pub ends_answer : (file : List ℕ) (start entries due : ℕ) → entry_at start entries ≤ length file
-    → ((k : ℕ) → k < entries → offset_of file start k ≡ due_at file start entries k) → due ≡ due_at file start entries entries
-    → eqb due (length file) ≡ is_sound_table file start entries
-ends_answer file start entries due whole placed next =
-    let tested = table_tested file start entries in
-    same_test (eqb due (length file)) (is_sound_table file start entries)
-    (λ e. tested.1 (record { whole = whole; placed = placed; ends = omega (arith, eqb-true due (length file) e) }))
-    (λ e. eq-eqb due (length file) (next ∙ (tested.0 e).ends))
+-- The first bodies of a table that lies in the file begin where they have to, and the next is due somewhere.
+pub record Passed (file : List ℕ) (start entries count due : ℕ) : Type 0 where
+  pub whole : entry_at start entries ≤ length file
+  pub some : count ≤ entries
+  pub next : due ≡ due_at file start entries count
+  pub placed : (k : ℕ) → k < count → offset_of file start k ≡ due_at file start entries k
+
+-- Before the first body the next is due directly after the table.
+pub passed_none : (file : List ℕ) (start entries : ℕ) → entry_at start entries ≤ length file
+    → Passed file start entries 0 (entry_at start entries)
+unfolding due_at
+passed_none file start entries whole =
+    record { whole = whole; some = omega arith; next = refl; placed = λ k below. absurd (omega arith) }
+
+module _ {file : List ℕ} {start entries count due : ℕ} (passed : Passed file start entries count due) where
+  module _ (more : count < entries) {offset : ℕ} (begins : offset ≡ offset_of file start count) where
+    -- A body that begins elsewhere than it is due makes the table unsound.
+    pub passed_stops : (offset ≡ due → ⊥) → ¬ SoundTable file start entries
+    passed_stops elsewhere sound = elsewhere (begins ∙ sound.placed count more ∙ sym passed.next)
+
+    -- Behind one that begins there the next is due where it ends.
+    pub passed_more : {long : ℕ} → offset ≡ due → long ≡ length_of file start count → Passed file start entries (count + 1) (offset + long)
+    passed_more there lasts = record {
+      whole = passed.whole;
+      some = omega arith;
+      next = omega (arith, due_next file start entries count);
+      placed = below_more _ _ passed.placed (sym begins ∙ there ∙ passed.next);
+    }
+
+  module _ (all : entries ≤ count) where
+    -- Where all are passed, the table is sound if the next would begin at the file's end,
+    pub passed_all : due ≡ length file → SoundTable file start entries
+    passed_all ends =
+        let every : count ≡ entries = omega (arith, passed.some) in
+        record { whole = passed.whole; placed = rw every at passed.placed; ends = rw every at (sym passed.next) ∙ ends }
+
+    -- and else it is not.
+    pub passed_astray : (due ≡ length file → ⊥) → ¬ SoundTable file start entries
+    passed_astray astray sound =
+        let every : count ≡ entries = omega (arith, passed.some) in
+        astray (rw every at passed.next ∙ sound.ends)
 
 -- No body is longer than the file.
 pub body_short : (file : List ℕ) (start k : ℕ) → length (entry_body file start k) ≤ length file
 body_short file start k = simp (length-take, length-drop) (omega arith)
-
--- What is lent from a part's offset on, of its length, is that part.
-pub part_lent : (file : List ℕ) (place : Part) {given : Part} → given ≡ place
-    → take ((given.offset + given.length) - given.offset) (drop given.offset file) ≡ bytes_at file place
-part_lent file place {given} is =
-    let count : (given.offset + given.length) - given.offset ≡ given.length = omega arith in
-    rw (count, is)
-
--- A file that is short enough, with n and m in range, is sound just when its table is.
-pub table_answer : (file : List ℕ) → length file ≤ 65535 → in_range (cells_in file) (handlers_in file) ≡ true
-    → is_sound_table file table_start (entries_in file) ≡ is_sound_file file
-unfolding is_sound_file
-table_answer file short ranged = rw (le-leb (length file) 65535 short, ranged)

@@ -1,25 +1,24 @@
--- What the enums of this crate mean in the definitions.
+-- What the answers of this crate mean in the definitions.
+use Rattle.std.specs.Prelude.{Result, Ok, Err}
 use Rattle.std.proofs.Math.Option.{Option, none, some}
 use Rattle.rules.specs.steps.Replies as Rules
 use Rattle.replies.specs.Meaning.{refusal_is}
+use Rattle.replies.specs.declared.Refusal.{Refusal}
 use Rattle.schedule.specs.Admitting as Admitting
 use Rattle.schedule.specs.Taking as Taking
-use Rattle.schedule.specs.declared.Admitted.{Admitted}
-use Rattle.schedule.specs.declared.Admitted.TheVariants.{Sound}
-use Rattle.schedule.specs.declared.Found.{Found}
-use Rattle.schedule.specs.declared.Found.TheVariants.{Script, Missing}
+use Rattle.schedule.specs.declared.Sizes.{Sizes}
 use Rattle.schedule.specs.declared.Next.{Next}
 use Rattle.schedule.specs.declared.Next.TheVariants.{Over, Refused, Taken}
 
 -- The admission.
-abbrev pub admission_is : Admitted → Admitting.Admission
-admission_is (Sound n m) = Admitting.sound n m
-admission_is (Admitted.Rejected refusal) = Admitting.Admission.refused (refusal_is refusal)
+abbrev pub admission_is : Result Sizes Refusal → Admitting.Admission
+admission_is (Ok sizes) = Admitting.sound sizes.handlers sizes.cells
+admission_is (Err refusal) = Admitting.Admission.refused (refusal_is refusal)
 
 -- The answer beside a script: nothing where it is found, and else the refusal.
-abbrev pub found_is : Found → Option Rules.Refusal
-found_is Script = none
-found_is (Missing refusal) = some (refusal_is refusal)
+abbrev pub found_is : Result Unit Refusal → Option Rules.Refusal
+found_is (Ok tt) = none
+found_is (Err refusal) = some (refusal_is refusal)
 
 -- What comes next.
 abbrev pub next_is : Next → Taking.Next

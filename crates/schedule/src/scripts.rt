@@ -1,34 +1,67 @@
-// The steps of a script: whether it is whole, and what stands in front of what is left of it. Internal.
-ghost use Rattle.std.specs.Prelude.{◌≡◌, drop};
-ghost use Rattle.rules.specs.steps.Codes.{plain_sheet};
-ghost use Rattle.checks.specs.Meaning.{kind_is};
+// The steps of a script: what stands in front of what is left of it, and whether it is whole. Internal.
+ghost use Rattle.std.specs.Prelude.{◌≡◌, ◌≤◌, length, drop};
+ghost use Rattle.rules.specs.steps.Codes.{known, plain_sheet};
+ghost use Rattle.checks.specs.Meaning.{step_is};
 ghost use Rattle.checks.specs.Promises.{TablePromise};
-ghost use Rattle.schedule.specs.Scripts.{is_whole};
+ghost use Rattle.schedule.specs.Scripts.{value_behind, is_whole};
 ghost use Rattle.schedule.specs.Fronts.{step_bytes, FrontOf};
 
 use crate::table::long_at;
-use checks::Kind;
+use checks::Step;
 use replies::Refusal;
 
-// What stands in front of what is left of a script.
-#[derive(Clone, Copy)]
-pub enum Front {
-    Refuses(Refusal),
-    Stands { code: u8, value: u32, long: usize },
+// A step that stands in front of what is left of a script: its code, its value, and how many bytes it takes.
+#[derive(Clone, Copy, Debug, PartialEq, Eq)]
+pub struct Standing {
+    pub code: u8,
+    pub value: u32,
+    pub long: usize,
 }
 
-// The bytes that a step takes, its value with it; 0 where its code is unknown.
-fn step_bytes(kind: Kind) -> usize
-    ensures { result ≡ step_bytes (kind_is kind) }
+// The bytes that a step takes, its value with it.
+fn step_bytes(step: Step) -> usize
+    ensures { result ≡ step_bytes (known (step_is step)) }
 {
-    match kind {
-        Kind::Begin => 1,
-        Kind::Try => 1,
-        Kind::GiveUp => 1,
-        Kind::Read(_) => 1,
-        Kind::Write(_) => 5,
-        Kind::Unknown => 0,
+    match step {
+        Step::Begin => 1,
+        Step::Try => 1,
+        Step::GiveUp => 1,
+        Step::Read(_) => 1,
+        Step::Write(_) => 5,
     }
+}
+
+// The value of the step at the front of some bytes; 0 where it is no write.
+fn value_behind(step: Step, bytes: &[u8]) -> u32
+    requires { step_bytes (known (step_is step)) ≤ length bytes.now }
+    ensures { result ≡ value_behind (known (step_is step)) bytes.now }
+{
+    match step {
+        Step::Write(_) => long_at(bytes, 1),
+        Step::Begin | Step::Try | Step::GiveUp | Step::Read(_) => 0,
+    }
+}
+
+// What stands in front of a script that is used up to a place, by the table of the plain sheet.
+pub fn in_front(script: &[u8], at: usize, table: &[u8]) -> Result<Standing, Refusal>
+    requires { TablePromise plain_sheet table.now }
+    ensures { FrontOf (drop at script.now) result }
+{
+    if script.len() <= at {
+        return Err(Refusal::UsedUp);
+    }
+    let left = &script[at..];
+    let code = left[0];
+    let entry = checks::entry_by(table, code as u32);
+    let Some(step) = checks::kind_in(entry) else {
+        return Err(Refusal::UnknownStep);
+    };
+    let long = step_bytes(step);
+    if left.len() < long {
+        return Err(Refusal::UnknownStep);
+    }
+    let value = value_behind(step, left);
+    Ok(Standing { code, value, long })
 }
 
 // Whether every code of a script is known, by the table of the plain sheet, and no write is cut short.
@@ -36,43 +69,9 @@ pub fn whole(script: &[u8], table: &[u8]) -> bool
     requires { TablePromise plain_sheet table.now }
     ensures { result ≡ is_whole script.now }
 {
-    let mut at = 0;
-    while at < script.len() {
-        let entry = checks::entry_by(table, script[at] as u32);
-        let long = step_bytes(checks::kind_in(entry));
-        if long == 0 {
-            return false;
-        }
-        at = at + long;
-        if script.len() < at {
-            return false;
-        }
+    let mut left = script;
+    while let Ok(standing) = in_front(left, 0, table) {
+        left = &left[standing.long..];
     }
-    true
-}
-
-// What stands in front of a script that is used up to a place.
-pub fn in_front(script: &[u8], at: usize) -> Front
-    ensures { FrontOf (drop at script.now) result }
-{
-    if script.len() <= at {
-        return Front::Refuses(Refusal::UsedUp);
-    }
-    let code = script[at];
-    let long = step_bytes(checks::kind_of(code as u32));
-    if long == 0 {
-        return Front::Refuses(Refusal::UnknownStep);
-    }
-    if script.len() - at < long {
-        return Front::Refuses(Refusal::UnknownStep);
-    }
-    if long < 5 {
-        return Front::Stands {
-            code,
-            value: 0,
-            long,
-        };
-    }
-    let value = long_at(script, at + 1);
-    Front::Stands { code, value, long }
+    left.is_empty()
 }

@@ -1,3 +1,2 @@
--- Laws of a search among the cells of a set.
+-- What a search among the cells of a set finds.
 pub mod Cells
-pub mod Finds

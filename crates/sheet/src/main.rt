@@ -6,14 +6,14 @@
 ghost use Rattle.std.specs.Prelude.{◌≤◌, length};
 ghost use Rattle.summary.specs.Texts.{longest_name};
 
-use sheets::Added;
+use replies::Refusal;
 use std::env::FillError;
 use std::io::Read;
 use std::rt::Env;
 use std::{fs, str};
 
 // Prints the line of a file, by one write.
-fn print_added(rt: &HostRuntime, name: &[u8], added: Added)
+fn print_added(rt: &HostRuntime, name: &[u8], added: Result<(), Refusal>)
     requires { length name.now ≤ longest_name }
 {
     let mut printed = [0u8; summary::MOST_ADDED];
@@ -26,11 +26,9 @@ fn add_open<R: Read>(rt: &HostRuntime, sheet: &mut [u32], input: &mut R, name: &
     requires { length name.now ≤ longest_name }
 {
     let mut file = [0u8; filters::MOST_READ];
-    let reading = filters::read_from(rt, input, name, &mut file);
-    if !reading.whole {
+    let Ok(count) = filters::read_from(rt, input, name, &mut file) else {
         return;
-    }
-    let count = reading.count;
+    };
     let added = sheets::add_file(sheet, &file[..count]);
     print_added(rt, name, added);
 }

@@ -19,29 +19,18 @@ ghost use Rattle.sheets.specs.Meaning.{added_is};
 
 use counts::Counts;
 use lines::Shown;
-use replies::{Answer, Refusal};
+use replies::{Refusal, Report};
 use runs::Player;
-use schedule::Admitted;
-
-// What adding a file comes to: its run is counted, or it is refused and nothing is.
-#[derive(Clone, Copy)]
-pub enum Added {
-    Counted,
-    Refused(Refusal),
-}
+use schedule::Sizes;
 
 // Whether some count of the sheet is above the one up to which it takes a file.
-#[tactic(auto, using(crate::proofs::Full::full_at_lem))]
 fn is_full(sheet: &[u32]) -> bool
     requires { sheet_long ≤ length sheet.now }
     ensures { result ≡ is_full sheet.now }
 {
-    for place in 0..limits::SHEET_WORDS {
-        if sheet[place] > limits::SHEET_FULL {
-            return true;
-        }
-    }
-    false
+    sheet[..limits::SHEET_WORDS]
+        .iter()
+        .any(|&count| count > limits::SHEET_FULL)
 }
 
 // The counts of the row that begins at a place.
@@ -73,7 +62,7 @@ fn put_counts(sheet: &mut [u32], at: usize, counts: Counts)
 }
 
 // Counts the answer to a handler's step; a handler that no register has, has no row.
-fn count_answer(sheet: &mut [u32], handler: u8, code: u8, answer: Answer)
+fn count_answer(sheet: &mut [u32], handler: u8, code: u8, answer: Result<Report, Refusal>)
     requires { CountsTo most_raised sheet.old }
     ensures { WithShown (Asked handler code answer) sheet.old sheet.new }
 {
@@ -97,11 +86,7 @@ fn count_place(sheet: &mut [u32], shown: Shown)
             code,
             answer,
         } => count_answer(sheet, handler, code, answer),
-        Shown::Nothing => {}
-        Shown::NoStep {
-            handler: _,
-            refusal: _,
-        } => {}
+        Shown::Nothing | Shown::NoStep { .. } => {}
     }
 }
 
@@ -115,44 +100,41 @@ fn count_places(sheet: &mut [u32], file: &[u8], places: usize, words: &mut [u32]
     for place in 0..places {
         let placed = runs::play_place(Player::Register, file, cursors, place, words);
         cursors = placed.cursors;
-        let shown = placed.shown;
-        count_place(sheet, shown);
+        count_place(sheet, placed.shown);
     }
 }
 
 // Counts the run of a file that is admitted, on a register of its own.
-fn count_run(sheet: &mut [u32], file: &[u8], handlers: u32, cells: u32)
-    requires { CountsTo full_above sheet.old × (sound handlers cells ≡ admission_of file.now) }
+fn count_run(sheet: &mut [u32], file: &[u8], sizes: Sizes)
+    requires { CountsTo full_above sheet.old × (sound sizes.handlers sizes.cells ≡ admission_of file.now) }
     ensures { sheet.new ≡ with_lines sheet.old (lines_of (run_of file.now)) }
 {
     let mut words = [0u32; limits::REGISTER_WORDS];
-    runs::open(Player::Register, &mut words, cells, handlers);
+    let _ = runs::open(Player::Register, &mut words, sizes.cells, sizes.handlers);
     let places = schedule::order_places(file);
     count_places(sheet, file, places, &mut words);
 }
 
 // Adds a file that is admitted to a sheet that is not full.
-fn add_admitted(sheet: &mut [u32], file: &[u8], handlers: u32, cells: u32) -> Added
-    requires { (sheet_long ≤ length sheet.old) × (sound handlers cells ≡ admission_of file.now) }
+fn add_admitted(sheet: &mut [u32], file: &[u8], sizes: Sizes) -> Result<(), Refusal>
+    requires { (sheet_long ≤ length sheet.old) × (sound sizes.handlers sizes.cells ≡ admission_of file.now) }
     ensures { AddPromise sheet.old file.now (added_is result) sheet.new }
 {
     if is_full(sheet) {
-        return Added::Refused(Refusal::SheetFull);
+        return Err(Refusal::SheetFull);
     }
-    count_run(sheet, file, handlers, cells);
-    Added::Counted
+    count_run(sheet, file, sizes);
+    Ok(())
 }
 
 // Adds a file to a sheet: each reply of its run is counted in its handler's row, or the file is refused and every word is as it was.
 #[tactic(auto, using(crate::proofs::Adds::add_short))]
-pub fn add_file(sheet: &mut [u32], file: &[u8]) -> Added
+pub fn add_file(sheet: &mut [u32], file: &[u8]) -> Result<(), Refusal>
     ensures { AddPromise sheet.old file.now (added_is result) sheet.new }
 {
     if sheet.len() < limits::SHEET_WORDS {
-        return Added::Refused(Refusal::TooShort);
+        return Err(Refusal::TooShort);
     }
-    match schedule::admit_file(file) {
-        Admitted::Sound { handlers, cells } => add_admitted(sheet, file, handlers, cells),
-        Admitted::Rejected(refusal) => Added::Refused(refusal),
-    }
+    let sizes = schedule::admit_file(file)?;
+    add_admitted(sheet, file, sizes)
 }

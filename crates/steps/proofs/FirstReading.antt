@@ -1,7 +1,7 @@
 -- The first read over a whole body: the cell that is found in the words is the one that the rules find, and with the handler put to rest,
 -- or with the cell joined to it, the body holds the rules' register.
 use Prim.Native.Nat.{ℕ, ◌+◌, ◌-◌}
-use mathlib.Core.Path.{◌≡◌, sym, ap, ap₂, subst, ◌∙◌}
+use mathlib.Core.Path.{◌≡◌, ap, ap₂, ◌∙◌}
 use mathlib.Core.List.{List}
 use mathlib.Core.Option.{none, some}
 use lib.ListN.{get_or, take, drop}
@@ -15,11 +15,10 @@ use Rattle.rules.proofs.steps.Searches.{lowest_same}
 use Rattle.layout.specs.Places.{cell_start, handler_start, handler_long, transaction_from}
 use Rattle.layout.specs.View.{word_setting, view_handler, view, pour_handler}
 use Rattle.layout.proofs.ViewPour.{view_confined}
-use Rattle.layout.proofs.Kept.{view_bounded}
 use Rattle.words.specs.Rows.{RowOf}
 use Rattle.words.proofs.Changes.{row_is}
 use Rattle.searches.specs.Searches.{lower}
-use Rattle.block.specs.Blocks.{row_table, Small, joined_with}
+use Rattle.block.specs.Blocks.{row_table, joined_with}
 use Rattle.places.specs.Spans.{Spans}
 use Rattle.steps.specs.Takes.{Seated, Unread, Takes}
 use Rattle.steps.proofs.Lent.{lent_takes, rest_takes}
@@ -69,10 +68,6 @@ module _ {m n i x : ℕ} {words : List ℕ} (first : Unread m n words i x) {star
       inside = λ y l. copied.inside y l ∙ number_said n words first.ready.cell starts y l;
       beyond = copied.beyond;
     }) ((view_confined m n words).cell x)
-
-    -- None of them is above the most that a number can be.
-    pub row_small : Small m (row_table row)
-    row_small = subst (Small m) (sym numbers) ((view_bounded seated.formed.good).cells x first.ready.cell)
 
     -- With the cell joined at its own number, the body holds the rules' register; what its version shows is replied.
     pub read_takes : {content : Content ℕ} {last : List ℕ} → torn_cell (word_setting m) h c ≡ none

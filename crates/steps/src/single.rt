@@ -8,17 +8,14 @@ ghost use Rattle.replies.specs.Meaning.{outcome_is};
 ghost use Rattle.steps.specs.Takes.{Seated, Ready, Unread, Takes};
 
 use places::{block_at, cell_at};
-use replies::{Content, Outcome, Reason};
-use words::Found;
+use replies::{Outcome, Reason};
 
 // Whether the handler's transaction is open.
 pub fn is_open(body: &[u32], m: usize, n: usize, i: usize) -> bool
     requires { Seated m n body.now i }
     ensures { result ≡ has_open ((view m n body.now).handlers i) }
 {
-    let span = block_at(m, i);
-    let start = span.start;
-    body[start + places::PHASE] != 0
+    body[block_at(m, i).start + places::PHASE] != 0
 }
 
 // A begin.
@@ -26,10 +23,7 @@ pub fn begin(body: &mut [u32], m: usize, n: usize, i: usize)
     requires { Ready m n body.old i Codes.begin }
     ensures { Takes m n body.old i Codes.begin 0 Replies.ok body.new }
 {
-    let span = block_at(m, i);
-    let start = span.start;
-    let end = span.end;
-    block::begin(&mut body[start..end], m);
+    block::begin(&mut body[block_at(m, i)], m);
 }
 
 // A give up: the transaction is ended as any abort ends it.
@@ -37,10 +31,7 @@ pub fn give_up(body: &mut [u32], m: usize, n: usize, i: usize) -> Outcome
     requires { Ready m n body.old i Codes.give_up }
     ensures { Takes m n body.old i Codes.give_up 0 (outcome_is result) body.new }
 {
-    let span = block_at(m, i);
-    let start = span.start;
-    let end = span.end;
-    block::rest(&mut body[start..end], m);
+    block::rest(&mut body[block_at(m, i)], m);
     Outcome::Aborted(Reason::GaveUp)
 }
 
@@ -49,10 +40,7 @@ pub fn write(body: &mut [u32], m: usize, n: usize, i: usize, x: usize, value: u3
     requires { Ready m n body.old i (Codes.write x) }
     ensures { Takes m n body.old i (Codes.write x) value Replies.ok body.new }
 {
-    let span = block_at(m, i);
-    let start = span.start;
-    let end = span.end;
-    block::write(&mut body[start..end], m, x, value);
+    block::write(&mut body[block_at(m, i)], m, x, value);
 }
 
 // A read of cell x that is in neither set. A number that the read set holds is not below the cell's once nothing is torn, so that all
@@ -61,22 +49,20 @@ fn first_read(body: &mut [u32], m: usize, n: usize, i: usize, x: usize) -> Outco
     requires { Unread m n body.old i x }
     ensures { Takes m n body.old i (Codes.read x) 0 (outcome_is result) body.new }
 {
-    let cell = cell_at(m, x);
-    let first = cell.start;
+    let first = cell_at(m, x).start;
     let numbers = first + places::NUMBERS;
     let span = block_at(m, i);
     let start = span.start;
-    let end = span.end;
     let held = start + places::transaction_numbers(m);
     let set = body[start + places::READ_SET];
-    if let Found::Cell(y) = searches::torn(body, m, set, held, numbers) {
-        block::rest(&mut body[start..end], m);
+    if let Some(y) = searches::torn(body, m, set, held, numbers) {
+        block::rest(&mut body[span], m);
         return Outcome::Aborted(Reason::Torn(y));
     }
     let value = body[first + places::VALUE];
     let own = body[numbers + x];
     let row = words::copy_out(body, numbers, m);
-    block::join(&mut body[start..end], m, x, value, &row);
+    block::join(&mut body[span], m, x, value, &row);
     Outcome::Shows(replies::version_shows(own, value))
 }
 
@@ -85,13 +71,12 @@ pub fn read(body: &mut [u32], m: usize, n: usize, i: usize, x: usize) -> Outcome
     requires { Ready m n body.old i (Codes.read x) }
     ensures { Takes m n body.old i (Codes.read x) 0 (outcome_is result) body.new }
 {
-    let span = block_at(m, i);
-    let start = span.start;
+    let start = block_at(m, i).start;
     let read = body[start + places::READ_SET];
     let written = body[start + places::WRITTEN_SET];
     let copies = start + places::copies(m);
     if words::has(written, x) {
-        return Outcome::Shows(Content::Value(body[copies + x]));
+        return Outcome::Shows(Some(body[copies + x]));
     }
     if words::has(read, x) {
         let number = body[start + places::transaction_numbers(m) + x];

@@ -5,7 +5,6 @@ ghost use Rattle.steps.specs.Takes.{Ready, Takes, Commits};
 
 use places::block_at;
 use replies::{Outcome, Reason};
-use words::Found;
 
 // A commit: the numbers are raised in the transaction's row, the written cells take it, and then the handler.
 fn commit(body: &mut [u32], m: usize, n: usize, i: usize)
@@ -14,13 +13,12 @@ fn commit(body: &mut [u32], m: usize, n: usize, i: usize)
 {
     let span = block_at(m, i);
     let start = span.start;
-    let end = span.end;
     let set = body[start + places::WRITTEN_SET];
     let held = start + places::transaction_numbers(m);
     let copies = start + places::copies(m);
     stores::stamp(body, m, set, held);
     stores::store(body, m, set, copies, held);
-    block::settle(&mut body[start..end], m);
+    block::settle(&mut body[span], m);
 }
 
 // A try.
@@ -30,16 +28,15 @@ pub fn attempt(body: &mut [u32], m: usize, n: usize, i: usize) -> Outcome
 {
     let span = block_at(m, i);
     let start = span.start;
-    let end = span.end;
     let read = body[start + places::READ_SET];
     let written = body[start + places::WRITTEN_SET];
     let held = start + places::transaction_numbers(m);
-    if let Found::Cell(z) = searches::overtaken(body, m, read, held) {
-        block::rest(&mut body[start..end], m);
+    if let Some(z) = searches::overtaken(body, m, read, held) {
+        block::rest(&mut body[span], m);
         return Outcome::Aborted(Reason::Overtaken(z));
     }
-    if let Found::Cell(z) = searches::spent(body, m, written) {
-        block::rest(&mut body[start..end], m);
+    if let Some(z) = searches::spent(body, m, written) {
+        block::rest(&mut body[span], m);
         return Outcome::Aborted(Reason::Spent(z));
     }
     commit(body, m, n, i);

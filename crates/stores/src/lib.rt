@@ -11,17 +11,15 @@ ghost use Rattle.layout.specs.View.{pour_cell};
 ghost use Rattle.words.specs.Rows.{Changed};
 ghost use Rattle.stores.specs.Stores.{Behind, Raisable, stamped_in, Stores};
 
+use words::Cells;
+
 // Each cell of the set gets the number one above its own in the row held.
 pub fn stamp(body: &mut [u32], m: usize, set: u32, held: usize)
     requires { Behind m set held body.old × Raisable m body.old }
     ensures { Changed held m (stamped_in m set body.old held) body.old body.new }
 {
-    let mut left = set;
-    while left != 0 {
-        let c = words::lowest(left);
-        let own = places::own_number(m, c);
-        body[held + c] = body[own] + 1;
-        left = words::without(left, c);
+    for c in Cells::of(set) {
+        body[held + c] = body[places::own_number(m, c)] + 1;
     }
 }
 
@@ -45,10 +43,7 @@ pub fn store(body: &mut [u32], m: usize, set: u32, copies: usize, held: usize)
     ensures { Stores m (has_bit set) (λ c. get_or body.old (copies + c) 0) (λ y. get_or body.old (held + y) 0)
         body.old body.new }
 {
-    let mut left = set;
-    while left != 0 {
-        let c = words::lowest(left);
+    for c in Cells::of(set) {
         store_one(body, m, c, copies, held);
-        left = words::without(left, c);
     }
 }

@@ -1,3 +1,2 @@
--- The laws of a sheet's lines, and the small sheet computed.
-pub mod Rows
+-- The small sheet computed.
 pub mod Listing

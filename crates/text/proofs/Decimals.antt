@@ -47,3 +47,14 @@ spelled_short (suc turns) (suc k) n below = by (ltb n 10) (λ small. rw small (o
 -- A number has no more digits than that.
 pub decimal_short : (k n : ℕ) → n < tens k → length (decimal n) ≤ suc k
 decimal_short k n below = spelled_short n k n below
+
+-- So a byte has at most three digits,
+pub byte_short : (n : ℕ) → n < 256 → length (decimal n) ≤ 3
+byte_short n small = decimal_short 2 n (omega (arith, small))
+
+-- and a word of two bytes at most five.
+pub word_short : (n : ℕ) → n < 65536 → length (decimal n) ≤ 5
+word_short n small = decimal_short 4 n (omega (arith, small))
+
+-- How wide such numbers are, and texts behind one another.
+pub ruleset widths = (byte_short, word_short, length-append)

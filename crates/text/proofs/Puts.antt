@@ -1,11 +1,10 @@
--- Bytes put one after another into a buffer are put together, and so are texts.
-use Prim.Native.Nat.{ℕ, suc, ◌+◌, ◌≤◌, ◌<◌}
+-- Bytes put one after another into a buffer are put together.
+use Prim.Native.Nat.{ℕ, suc, ◌+◌, ◌≤◌}
 use mathlib.Core.Path.{◌≡◌, refl, sym, ap, ◌∙◌, subst}
 use mathlib.Core.List.{List, [], ◌∷◌, ◌++◌, append_assoc, append-nil}
 use native.Mathlib.Omega.{arith}
-use lib.ListN.{length, get_or, set, take, length-append, length-set}
-use lib.Seq.{take-suc, take-length, set_out}
-use Rattle.text.specs.Bytes.{in_turn}
+use lib.ListN.{length, set, length-append, length-set}
+use lib.Seq.{set_out}
 use Rattle.text.specs.Lies.{over, Puts}
 
 -- ── A text over a buffer ──────────────────────────────────────────────
@@ -47,11 +46,6 @@ pub puts_beyond : {at end byte : ℕ} {buffer : List ℕ} → length buffer ≤ 
 puts_beyond {at} {end} {byte} {buffer} outside ends =
     subst (Puts (byte ∷ []) at end buffer) (set_out buffer at byte outside) (puts_byte ends)
 
--- so that what lies over the buffer is as it was,
-pub beyond_lies : {at : ℕ} (byte : ℕ) {buffer : List ℕ} (text space : List ℕ) → length buffer ≤ at → length text ≡ at
-    → buffer ≡ over text space → buffer ≡ over (text ++ byte ∷ []) space
-beyond_lies byte text space outside long is = (puts_beyond {byte = byte} outside refl).lies text space long is
-
 -- and bytes are put behind bytes.
 pub puts_both : {first second : List ℕ} {at mid end : ℕ} {x y z : List ℕ}
     → Puts first at mid x y → Puts second mid end y z → Puts (first ++ second) at end x z
@@ -62,36 +56,6 @@ puts_both {first} {second} p q = record {
       q.lies (text ++ first) space (length-append text first ∙ ap (λ k. k + length first) long ∙ sym p.ends) (p.lies text space long is)
       ∙ ap (λ t. over t space) (append_assoc text first second);
 }
-
--- ── Text, byte by byte ────────────────────────────────────────────────
-
--- So many bytes of a text and the next,
-pub puts_next : (bytes : List ℕ) (k : ℕ) {at mid end : ℕ} {x y z : List ℕ} → k < length bytes
-    → Puts (take k bytes) at mid x y → Puts (get_or bytes k 0 ∷ []) mid end y z → Puts (take (k + 1) bytes) at end x z
-puts_next bytes k {at} {end = end} {x} {z = z} within p q =
-    subst (λ t. Puts t at end x z) (sym (ap (λ j. take j bytes) one_more ∙ take-suc bytes k 0 within)) (puts_both p q)
-  where
-    one_more : k + 1 ≡ suc k
-    one_more = omega arith
-
--- and all of them.
-pub puts_all : (bytes : List ℕ) {at end : ℕ} {x y : List ℕ} → Puts (take (length bytes) bytes) at end x y → Puts bytes at end x y
-puts_all bytes {at} {end} {x} {y} = subst (λ t. Puts t at end x y) (take-length bytes)
-
--- ── Texts, one after another ──────────────────────────────────────────
-
--- No text is put anywhere,
-pub in_turn_none : (text : ℕ → List ℕ) {at : ℕ} {buffer : List ℕ} → Puts (in_turn 0 text) at at buffer buffer
-unfolding in_turn
-in_turn_none text = puts_none
-
--- and the next behind those before it.
-pub in_turn_more : (text : ℕ → List ℕ) (k : ℕ) {at mid end : ℕ} {before between after : List ℕ}
-    → Puts (in_turn k text) at mid before between → Puts (text k) mid end between after → Puts (in_turn (k + 1) text) at end before after
-unfolding in_turn
-in_turn_more text k so_far next =
-    let one_more : k + 1 ≡ suc k = omega arith in
-    rw one_more (puts_both so_far next)
 
 -- ── A whole text ──────────────────────────────────────────────────────
 

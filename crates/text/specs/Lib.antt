@@ -1,3 +1,4 @@
--- Texts as bytes, and texts in a buffer.
+-- Texts as bytes, texts in a buffer, and texts on a page.
 pub mod Bytes
 pub mod Lies
+pub mod Pages

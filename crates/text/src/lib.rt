@@ -2,45 +2,58 @@
 // Internal: called by our crates alone, which show what each function requires.
 #![tactic(auto)]
 
-ghost use Rattle.std.specs.Prelude.{◌+◌, ◌≤◌, length, List, [], ◌∷◌};
+ghost use Rattle.std.specs.Prelude.{◌+◌, ◌≤◌, ◌≡◌, length, List, [], ◌∷◌};
 ghost use Rattle.text.specs.Bytes.{decimal};
-ghost use Rattle.text.specs.Lies.{Puts, farthest};
+ghost use Rattle.text.specs.Lies.{farthest};
+ghost use Rattle.text.specs.Pages.{Writes};
 
-// Puts a byte at a place; the place behind it.
-#[tactic(auto, using(crate::proofs::Puts::beyond_lies))]
-pub fn put_byte(buffer: &mut [u8], at: usize, byte: u8) -> usize
-    requires { at ≤ farthest + 512 }
-    ensures { Puts (byte ∷ []) at result buffer.old buffer.new }
-{
-    let behind = at + 1;
-    if behind > buffer.len() {
-        return behind;
-    }
-    buffer[at] = byte;
-    behind
+// A text that is put into a lent buffer as far as there is room, and counted all the same, as C's snprintf does.
+#[derive(Drop)]
+pub struct Page<'a> {
+    pub buffer: &'a mut [u8],
+    pub end: usize,
 }
 
-// Puts a text at a place; the place behind it.
-pub fn put_text(buffer: &mut [u8], at: usize, text: &[u8]) -> usize
-    requires { (at ≤ farthest + 256) × (length text.now ≤ 64) }
-    ensures { Puts text.now at result buffer.old buffer.new }
-{
-    let mut end = at;
-    for k in 0..text.len() {
-        end = put_byte(buffer, end, text[k]);
+impl<'a> Page<'a> {
+    // An empty page over a buffer.
+    pub fn new(buffer: &'a mut [u8]) -> Page<'a>
+        ensures lent { result.buffer ≡ buffer.entry }
+        ensures front { result.end ≡ 0 }
+    {
+        Page { buffer, end: 0 }
     }
-    end
-}
 
-// Puts a number in decimal at a place; the place behind it.
-pub fn put_number(buffer: &mut [u8], at: usize, n: u32) -> usize
-    requires { at ≤ farthest + 256 }
-    ensures puts { Puts (decimal n) at result buffer.old buffer.new }
-    ensures upper_bound { result ≤ at + 10 }
-{
-    if n < 10 {
-        return put_byte(buffer, at, 48 + n as u8);
+    // Puts a byte.
+    pub fn put_byte(&mut self, byte: u8)
+        requires { self.old.end ≤ farthest + 512 }
+        ensures { Writes (byte ∷ []) self.old self.new }
+    {
+        if self.end < self.buffer.len() {
+            self.buffer[self.end] = byte;
+        }
+        self.end += 1;
     }
-    let tens = put_number(buffer, at, n / 10);
-    put_byte(buffer, tens, 48 + (n % 10) as u8)
+
+    // Puts a text.
+    pub fn put_text(&mut self, text: &[u8])
+        requires { self.old.end + length text.now ≤ farthest + 512 }
+        ensures { Writes text.now self.old self.new }
+    {
+        for &byte in text {
+            self.put_byte(byte);
+        }
+    }
+
+    // Puts a number in decimal.
+    pub fn put_number(&mut self, n: u32)
+        requires { self.old.end ≤ farthest + 256 }
+        ensures puts { Writes (decimal n) self.old self.new }
+        ensures upper_bound { self.new.end ≤ self.old.end + 10 }
+    {
+        if n < 10 {
+            return self.put_byte(48 + n as u8);
+        }
+        self.put_number(n / 10);
+        self.put_byte(48 + (n % 10) as u8);
+    }
 }

@@ -1,22 +1,10 @@
--- A step that is taken, by the kind of its code: what is known of one step with that kind is known of all.
+-- Steps that take no value take any.
 use Prim.Native.Nat.{ℕ}
-use mathlib.Core.Path.{◌≡◌}
 use mathlib.Core.List.{List}
-use Rattle.rules.specs.steps.Codes.{Step, begin, try, give_up, read, Kind, known}
+use Rattle.rules.specs.steps.Codes.{begin, try, give_up, read}
 use Rattle.rules.specs.steps.Replies.{Outcome}
 use Rattle.rules.specs.steps.Figure.{step}
-use Rattle.steps.specs.Takes.{Ready, Takes}
-use Rattle.checks.proofs.OneStep.{of_kind, for_kind}
-
-module _ {m n i : ℕ} {words : List ℕ} {kind : Kind} where
-  -- What is ready for the step of the kind is ready for this one.
-  pub ready_for : (s : Step) × (kind ≡ known s) × Ready m n words i s → (t : Step) → kind ≡ known t → Ready m n words i t
-  ready_for = of_kind (Ready m n words i)
-
-  -- What has taken this step has taken that of the kind.
-  pub takes_for : {value : ℕ} {outcome : Outcome ℕ} {after : List ℕ} (t : Step) → kind ≡ known t → Takes m n words i t value outcome after
-      → (s : Step) → kind ≡ known s → Takes m n words i s value outcome after
-  takes_for {value} {outcome} {after} = for_kind (λ q. Takes m n words i q value outcome after)
+use Rattle.steps.specs.Takes.{Takes}
 
 module _ {m n i value : ℕ} {words : List ℕ} {outcome : Outcome ℕ} {after : List ℕ} where
   -- A begin takes no value.

@@ -21,6 +21,7 @@ use Rattle.layout.specs.View.{word_setting, view, holding}
 use Rattle.layout.specs.WellFormed.{PhasesTo}
 use Rattle.layout.proofs.Kept.{view_phases}
 use Rattle.promises.specs.Bodies.{body_turn, body_words, BodyPromise}
+use Rattle.checks.proofs.OneStep.{of_kind, for_kind}
 use Rattle.steps.specs.Takes.{Ready, Takes, WholeBody}
 
 -- A handler of a register whose phases are 0 and 1 is in the phase that a step asks for, by whether it is open.
@@ -39,11 +40,12 @@ module _ {m n : ℕ} {body : List ℕ} (standing : WholeBody m n body) (handler 
   abbrev here : Asked
   here = asking true m n handler kind (has_open ((view m n body).handlers handler))
 
-  -- What the checks let through is ready to be taken.
-  pub body_ready : first_hit (step_checks here) ≡ none → (s : Step) × (kind ≡ known s) × Ready m n body handler s
-  body_ready e =
+  -- The step that the checks let through is ready to be taken.
+  pub body_ready : first_hit (step_checks here) ≡ none → {step : Step} → kind ≡ known step → Ready m n body handler step
+  body_ready e {step} is =
       let (s, free) = (free_exactly here).0 e in
-      let inside = free.fits.heard.handler in (
+      let inside = free.fits.heard.handler in
+      of_kind (Ready m n body handler) (
         s,
         free.fits.heard.known,
         record {
@@ -51,7 +53,7 @@ module _ {m n : ℕ} {body : List ℕ} (standing : WholeBody m n body) (handler 
           cell = free.fits.cell;
           phase = phased m n handler body standing.phases s inside free.phase;
         },
-      )
+      ) step is
 
   module _ (code : ℕ) (sheet : Sheet) (is : sheet code ≡ kind) where
     -- The checks are asked the same by a code that has this kind.
@@ -69,13 +71,13 @@ module _ {m n : ℕ} {body : List ℕ} (standing : WholeBody m n body) (handler 
         record { replied = rw turn; left = rw turn }
 
     -- What is taken is reported.
-    pub body_takes : first_hit (step_checks here) ≡ none → {outcome : Outcome ℕ} {after : List ℕ}
-        → ((s : Step) → kind ≡ known s → Takes m n body handler s value outcome after)
+    pub body_takes : first_hit (step_checks here) ≡ none → {step : Step} → kind ≡ known step → {outcome : Outcome ℕ} {after : List ℕ}
+        → Takes m n body handler step value outcome after
         → BodyPromise sheet m n body handler code value (reported (record { handler = handler; code = code; outcome = outcome })) after
     unfolding body_turn body_words
-    body_takes e {outcome} takes =
+    body_takes e {step} known_step {outcome} {after} takes =
         let (s, free) = (free_exactly here).0 e in
-        let taken = takes s free.fits.heard.known in
+        let taken = for_kind (λ t. Takes m n body handler t value outcome after) step known_step takes s free.fits.heard.known in
         let result = step_under sheet (word_setting m) (view m n body) handler s value in
         let turn : body_turn sheet m n body handler code value ≡ taken_turn (numbers_under sheet m) (view m n body) handler code value s
         = free_turn (numbers_under sheet m) n true (view m n body) handler code value s (subst (λ a. Free a s) (sym same) free) in

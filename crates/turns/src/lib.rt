@@ -18,9 +18,9 @@ ghost use Rattle.steps.specs.Takes.{Formed, WholeBody};
 ghost use Rattle.turns.specs.Meaning.{turned_is};
 
 use crate::take::take;
-use checks::{Kind, Verdict};
+use checks::Step;
 pub use formed::step_formed;
-use replies::{Answer, Outcome, Refusal, Report};
+use replies::{Outcome, Refusal, Report};
 
 // Whether a handler's transaction is open; of handler n or above there is none.
 fn has_open(body: &[u32], m: usize, n: usize, handler: u32) -> bool
@@ -28,49 +28,39 @@ fn has_open(body: &[u32], m: usize, n: usize, handler: u32) -> bool
     ensures { result ≡ has_open ((view m n body.now).handlers handler) }
 {
     let i = handler as usize;
-    if n <= i {
-        return false;
-    }
-    steps::is_open(body, m, n, i)
+    i < n && steps::is_open(body, m, n, i)
 }
 
-// What a turn comes to: the outcome of a step that is taken, or the refusal of one that is not. Who asked, and by which code, its caller
-// knows.
-#[derive(Clone, Copy)]
-pub enum Turned {
-    Took(Outcome),
-    Refused(Refusal),
-}
-
-// Takes the step of a handler, or refuses it. Which code asks for a step of this kind is the caller's to say: it holds of every code and
+// Takes the step of a handler, or refuses it. Who asked, and by which code, its caller knows. Which code asks for a step of this kind is the caller's to say: it holds of every code and
 // under every sheet that gives the code this kind.
-pub fn turn(body: &mut [u32], m: usize, n: usize, handler: u32, kind: Kind, value: u32) -> Turned
+pub fn turn(
+    body: &mut [u32],
+    m: usize,
+    n: usize,
+    handler: u32,
+    kind: Option<Step>,
+    value: u32,
+) -> Result<Outcome, Refusal>
     requires { WholeBody m n body.old }
     ensures { (sheet : Sheet) (code : ℕ) → sheet code ≡ kind_is kind
         → BodyPromise sheet m n body.old handler code value (turned_is handler code result) body.new }
 {
     let opened = has_open(body, m, n, handler);
-    let handlers = n as u32;
-    let verdict = checks::verdict_of(m, handlers, handler, kind, opened);
-    match verdict {
-        Verdict::Refuses(refusal) => Turned::Refused(refusal),
-        Verdict::Passes => {
-            let i = handler as usize;
-            Turned::Took(take(body, m, n, i, kind, value))
-        }
-    }
+    let step = checks::verdict_of(m, n as u32, handler, kind, opened)?;
+    Ok(take(body, m, n, handler as usize, step, value))
 }
 
 // The answer to a handler's step by a code, by what its turn came to.
-pub fn answer_of(handler: u32, code: u32, turned: Turned) -> Answer
+pub fn answer_of(
+    handler: u32,
+    code: u32,
+    turned: Result<Outcome, Refusal>,
+) -> Result<Report, Refusal>
     ensures { reply_is result ≡ turned_is handler code turned }
 {
-    match turned {
-        Turned::Took(outcome) => Answer::Reported(Report {
-            handler,
-            code,
-            outcome,
-        }),
-        Turned::Refused(refusal) => Answer::Refused(refusal),
-    }
+    Ok(Report {
+        handler,
+        code,
+        outcome: turned?,
+    })
 }

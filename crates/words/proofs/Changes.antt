@@ -1,16 +1,13 @@
 -- How rows change, one word after another: what a loop that stores has done so far, and that it is done.
-use Prim.Native.Nat.{ℕ, zero, suc, ◌+◌, ◌≤◌, ◌<◌}
-use mathlib.Core.Path.{◌≡◌, refl, sym, ap, ◌∙◌, subst, fun_ext}
-use mathlib.Core.List.{List}
-use mathlib.Core.Logic.{◌⊎◌, inl, inr}
-use native.Mathlib.Omega.{arith}
-use native.Mathlib.Nat.{zero-add}
+use Rattle.std.proofs.Common.{◌≡◌, ◌+◌, ◌-◌, ◌≤◌, ◌<◌, refl, sym, ap, ◌∙◌, subst, ℕ, zero, suc, List, ◌++◌, length, get_or, set, take, drop, ltb, arith}
+use Rattle.std.proofs.Common.{replicate}
+use mathlib.Core.Path.{fun_ext}
+use Rattle.std.proofs.Math.Seq.{get_or-set_same, get_or-set_other}
+use Rattle.std.proofs.Math.ListN.{length-set}
+use Rattle.std.proofs.lemmas.List.{length-append, length-drop, length-take-le, get_or_append_left, get_or-append_right, get_or-take, get_or-drop}
 use borrow.Author.Count.{below_more}
 use borrow.Author.Tests.{ltb-true, ltb-false}
 use Rattle.rules.proofs.steps.Tables.{by, SameFrom}
-use lib.Dec.{ltb}
-use lib.ListN.{length, get_or, set, replicate, length-set}
-use lib.Seq.{get_or-set_same, get_or-set_other}
 use Rattle.words.specs.Rows.{Changed, RowOf}
 
 module _ (from : ℕ) (table : ℕ → ℕ) (words : List ℕ) where
@@ -61,29 +58,21 @@ zeros_at zero y = refl
 zeros_at (suc long) zero = refl
 zeros_at (suc long) (suc y) = zeros_at long y
 
--- A row of 32 zeros that was changed from the first on is the row of the table.
-pub changed_row : {count : ℕ} {table : ℕ → ℕ} {row : List ℕ} → Changed 0 count table (replicate 32 0) row → RowOf count table row
-changed_row {count = count} {row = row} changed = record {
-  size = changed.untouched.size;
-  inside = λ y h. ap (λ k. get_or row k 0) (sym (zero-add y)) ∙ changed.inside y h;
-  beyond = λ y h. changed.untouched.above y (omega arith) ∙ zeros_at 32 y;
+-- A row of 32 zeros, with a part of the words laid over its front, is the row of the part's table.
+pub row_copied : (from : ℕ) {count : ℕ} (words : List ℕ) {part : List ℕ} → part ≡ take count (drop from words) → from + count ≤ length words → count ≤ 32
+    → RowOf count (λ y. get_or words (from + y) 0) (part ++ drop count (replicate 32 0))
+row_copied from {count} words {part} copied fits few = record {
+  size = length-append part _ ∙ omega (arith, long, length-drop {A = ℕ} count (replicate 32 0));
+  inside = λ y h. get_or_append_left part _ 0 y (omega (arith, long)) ∙ ap (λ p. get_or p y 0) copied
+      ∙ get_or-take count (drop from words) y 0 h ∙ get_or-drop from words y 0;
+  beyond = λ y h. get_or-append_right part _ _ y 0 long h ∙ get_or-drop count (replicate 32 0) (y - count) 0 ∙ zeros_at 32 (count + (y - count));
 }
+  where
+    long : length part ≡ count
+    long = ap length copied ∙ length-take-le count (drop from words) (omega (arith, length-drop from words))
 
 -- A row stands for its table, if that is 0 from the count on.
 pub row_is : {count : ℕ} {table : ℕ → ℕ} {row : List ℕ} → RowOf count table row → SameFrom count 0 table → (λ y. get_or row y 0) ≡ table
 row_is {count} of beyond = fun_ext (λ y. by (ltb y count)
     (λ e. of.inside y (ltb-true y count e))
     (λ e. of.beyond y (ltb-false y count e) ∙ sym (beyond y (ltb-false y count e))))
-
--- One more word from the first on is changed.
-pub changed_first : (count : ℕ) (table : ℕ → ℕ) (words after : List ℕ) (v : ℕ) → Changed 0 count table words after → count < length words
-    → v ≡ table count → Changed 0 (count + 1) table words (set after count v)
-changed_first count table words after v changed fits e =
-    subst (λ k. Changed 0 (count + 1) table words (set after k v)) (zero-add count)
-    (changed_more 0 table words count after v changed (omega arith) e)
-
--- A row that lies apart from the one that is changed keeps its words.
-pub changed_apart : {to done count : ℕ} {table : ℕ → ℕ} {words after : List ℕ} (from y : ℕ) → Changed to done table words after
-    → (from + count ≤ to) ⊎ (to + count ≤ from) → done ≤ count → y < count → get_or after (from + y) 0 ≡ get_or words (from + y) 0
-changed_apart from y changed (inl front) part inside = changed.untouched.below _ (omega arith)
-changed_apart from y changed (inr behind) part inside = changed.untouched.above _ (omega arith)

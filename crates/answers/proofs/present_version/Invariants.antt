@@ -1,13 +1,7 @@
--- `answers::present_version` meets its contract: of the commits passed, the last that wrote the cell is its writer, and each that
--- wrote it is counted.
-use Prim.Native.Nat.{ℕ, ◌≤◌, ◌<◌}
-use mathlib.Core.Path.{◌≡◌}
-use Rattle.rules.specs.history.History as History
-use Rattle.rules.specs.demand.Judge.{version_count}
-use Rattle.ledger.specs.Histories.{commits_in}
+-- `answers::present_version` meets its contract: of the commits passed, each that wrote the cell is counted.
+use Rattle.std.proofs.Common.{◌<◌}
+use Rattle.answers.proofs.Present.{IsCounted}
 use Rattle.answers.proofs.present_version.Given as goal
 
-abbrev pub invariant-loop-earlier : goal.invariant-loop-earlier
-invariant-loop-earlier l = (l.earlier ≤ l.count) × (l.writer ≤ l.earlier) × (l.number ≤ l.earlier)
-    × ((m : ℕ) → l.x < m → (l.writer ≡ History.writer (commits_in m l.words l.earlier) l.x) ×
-    (l.number ≡ version_count (commits_in m l.words l.earlier) l.x))
+abbrev pub invariant-loop-place : goal.invariant-loop-place
+invariant-loop-place l = record { few : l.number < l.place; counted : IsCounted l.history.words.now l.x l.place l.number }

@@ -1,21 +1,10 @@
 -- `block::write` meets its contract: the copy is stored, and the cell joins the written set.
-use Prim.Native.Nat.{◌+◌}
-use native.Mathlib.Omega.{arith}
-use lib.ListN.{length-set}
+use Rattle.std.proofs.Common.{arith}
 use Rattle.layout.proofs.Blocks.{handler_is, viewed_handler}
-use Rattle.block.proofs.Stores.{stored, stored_at}
 use Rattle.block.proofs.Held.{wrote_held}
 use Rattle.block.proofs.write.Goals as goal
-
-pub bounds-block-2 : goal.bounds-block-2
-bounds-block-2 c = simp length-set (omega arith)
-
-pub bounds-block-2-2 : goal.bounds-block-2-2
-bounds-block-2-2 c = simp length-set (omega arith)
 
 pub returns : goal.returns
 returns c = let before = c.requires.0 in
     let holds = viewed_handler _ c.args.block.now before.words.size before.good in
-    handler_is _ _ _ (wrote_held holds before.opened c.requires.1
-    (stored_at (c.copies.result + c.args.x) _ _ (omega arith) (omega arith)) c.with_cell.ensures
-    (stored _ _ _ (simp length-set (omega arith))))
+    handler_is _ _ _ (wrote_held holds before.opened c.requires.1 c.args.value (omega arith) c.with_cell.ensures)

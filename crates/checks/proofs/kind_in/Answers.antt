@@ -1,5 +1,5 @@
 -- `checks::kind_in` meets its promise: each arm's number is that of its kind.
-use mathlib.Core.Path.{refl}
+use Rattle.std.proofs.Common.{rules, refl}
 use Rattle.checks.specs.Entries.{numbered}
 use Rattle.checks.proofs.Tables.{says_number, says_none}
 use Rattle.checks.proofs.kind_in.Goals as goal
@@ -25,5 +25,4 @@ unfolding numbered
 returns-in-5 c = says_number c.in-5.is refl
 
 pub returns-in_default : goal.returns-in_default
-unfolding numbered
-returns-in_default c = let rest = c.in_default.in_default-own.rest in says_none rest.0.0.0.0.1 rest.0.0.0.1 rest.0.0.1 rest.0.1 rest.1
+returns-in_default c = search (rules, says_none)

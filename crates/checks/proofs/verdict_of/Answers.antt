@@ -1,57 +1,35 @@
--- `checks::verdict_of` meets its contract: the checks are asked in their order, and the first that holds answers.
-use Prim.Native.Nat.{◌<◌}
-use mathlib.Core.Path.{◌≡◌, refl, sym, ap₂, ◌∙◌}
-use mathlib.Core.Bool.{Bool, true, false}
-use mathlib.Core.Option.{Option}
-use native.Mathlib.Omega.{arith}
-use Rattle.rules.specs.steps.Replies.{Refusal}
-use Rattle.rules.specs.steps.Checks.{Asked, asking, first_hit, step_checks, is_unknown}
-use Rattle.checks.specs.Meaning.{kind_is}
-use Rattle.checks.specs.Promises.{VerdictPromise}
-use Rattle.checks.proofs.Refusing.{phased, stops_15, stops_11, stops_12, stops_phased}
+-- `checks::verdict_of` meets its promise: the checks are asked in their order, and the first that holds answers.
+use Rattle.std.proofs.Common.{◌≡◌, Bool, sym, ap, ◌∙◌}
+use Rattle.checks.specs.Meaning.{step_is, kind_is}
+use Rattle.checks.proofs.Refusing.{Says, phased, stops_15, stops_11, stops_12, stops_phased}
 use Rattle.checks.proofs.verdict_of.Goals as goal
-use Rattle.checks.proofs.verdict_of.Goals.{After-is_begin, Else-is_unknown, Else-n-handler}
+use Rattle.checks.proofs.verdict_of.Goals.{After-is_begin}
 
--- Past the first check the code stands for a step.
-known : (c : Else-is_unknown) → is_unknown (kind_is c.args.kind) ≡ false
-known c = sym c.is_unknown.ensures ∙ c.if-is_unknown.false
+-- Past the third check the phase decides.
+by_phase : (c : After-is_begin) {begins stands : Bool} → c.is_begin.result ≡ begins → c.args.opened ≡ stands
+    → let args = c.args in Says args.m args.n args.handler args.opened (kind_is args.kind) (phased (step_is c.in-Some.step) begins stands)
+by_phase c is_one stood = let args = c.args in
+    stops_phased args.m args.n args.handler args.opened (ap kind_is c.in-Some.is) c.if-n-handler.false (sym c.is_beyond.ensures ∙ c.if-is_beyond.false)
+    (sym is_one ∙ c.is_begin.ensures) stood
 
--- Past the second there is such a handler.
-inside : (c : Else-n-handler) → let args = c.args in args.handler < args.n
-inside c = omega arith
-
--- Past the third the phase decides.
-by_phase : (c : After-is_begin) {begins opened : Bool} → let args = c.args in
-    c.is_begin.result ≡ begins → args.opened ≡ opened
-    → phased begins opened ≡ first_hit (step_checks (asking true args.m args.n args.handler (kind_is args.kind) args.opened))
-by_phase c begins opened =
-    let placed = sym c.is_beyond.ensures ∙ c.if-is_beyond.false in
-    ap₂ phased (sym begins ∙ c.is_begin.ensures) (sym opened) ∙ stops_phased _ refl (known c.before.before.before.before)
-    (inside c.before.before.before) placed
-
--- What the checks say is all that is promised.
-says : {asked : Asked} {verdict : Option Refusal} → verdict ≡ first_hit (step_checks asked) → VerdictPromise asked verdict
-says is = record { replied = is; left = refl }
-
-pub returns-then-is_unknown : goal.returns-then-is_unknown
-returns-then-is_unknown c = says (stops_15 _ refl (sym c.is_unknown.ensures ∙ c.if-is_unknown.true))
+pub returns-in_default : goal.returns-in_default
+returns-in_default c = stops_15 _ _ _ _ (ap kind_is c.in_default.is)
 
 pub returns-then-n-handler : goal.returns-then-n-handler
-returns-then-n-handler c = says (stops_11 _ refl (known (goal.at.returns-then-n-handler c).Else-is_unknown) (omega arith))
+returns-then-n-handler c = stops_11 _ _ _ _ (ap kind_is c.in-Some.is) c.if-n-handler.true
 
 pub returns-then-is_beyond : goal.returns-then-is_beyond
 returns-then-is_beyond c =
-    says (stops_12 _ refl (known (goal.at.returns-then-is_beyond c).Else-is_unknown) (inside (goal.at.returns-then-is_beyond c).Else-n-handler)
-    (sym c.is_beyond.ensures ∙ c.if-is_beyond.true))
+    stops_12 _ _ _ _ (ap kind_is c.in-Some.is) c.if-n-handler.false (sym c.is_beyond.ensures ∙ c.if-is_beyond.true)
 
 pub returns-then-opened : goal.returns-then-opened
-returns-then-opened c = says (by_phase (goal.at.returns-then-opened c).After-is_begin c.if-is_begin.true c.if-opened.true)
+returns-then-opened c = by_phase (goal.at.returns-then-opened c).After-is_begin c.if-is_begin.true c.if-opened.true
 
-pub returns-then-is_begin : goal.returns-then-is_begin
-returns-then-is_begin c = says (by_phase (goal.at.returns-then-is_begin c).After-is_begin c.if-is_begin.true c.if-opened.false)
+pub returns-else-opened : goal.returns-else-opened
+returns-else-opened c = by_phase (goal.at.returns-else-opened c).After-is_begin c.if-is_begin.true c.if-opened.false
 
 pub returns-then-opened-2 : goal.returns-then-opened-2
-returns-then-opened-2 c = says (by_phase (goal.at.returns-then-opened-2 c).After-is_begin c.if-is_begin.false c.if-opened-2.true)
+returns-then-opened-2 c = by_phase (goal.at.returns-then-opened-2 c).After-is_begin c.if-is_begin.false c.if-opened-2.true
 
-pub returns : goal.returns
-returns c = says (by_phase (goal.at.returns c).After-is_begin c.if-is_begin.false c.if-opened-2.false)
+pub returns-else-opened-2 : goal.returns-else-opened-2
+returns-else-opened-2 c = by_phase (goal.at.returns-else-opened-2 c).After-is_begin c.if-is_begin.false c.if-opened-2.false

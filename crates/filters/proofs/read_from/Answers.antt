@@ -1,5 +1,5 @@
 -- What a read brought stands behind what was read before, and both together are what the reader gave.
-use Rattle.std.proofs.Common.{rules, ◌≡◌, ℕ, ◌+◌, ◌-◌, ◌≤◌, List, ◌++◌, arith}
+use Rattle.std.proofs.Common.{rules, ◌≡◌, ℕ, ◌+◌, ◌-◌, ◌≤◌, List, [], ◌++◌, arith, append-nil}
 use Rattle.std.proofs.Common.{length, take, slice_range, sym, ap, ◌∙◌, subst, le_refl, drop_at, length-take-le}
 use Rattle.std.proofs.lemmas.Slice.{take-put_mid_below}
 use Rattle.std.specs.Io.KnownBytes.{Consumes}
@@ -29,15 +29,25 @@ loop-count-preserved g c =
     let from = c.loop-count.count in
     let file = c.loop-count.file in
     let room = length file - from in
-    let more = c.read_some-reading.result.count in
-    let part = c.read_some-reading.new.part in
+    let more = c.in-Ok.more in
+    let part = c.read_some.new.part in
     let inside = c.loop-count.invariant.inside in
-    let brought = stands_there from room more file part inside c.read_some-reading.ensures.count.0 in
+    let brought = stands_there from room more file part inside c.in-Ok.ensures.count.0 in
     let kept = take-put_mid_below _ _ _ _ _ (le_refl _) inside in
     let joined = take_split from (from + more) file (put_mid from room file part) (omega arith) kept in
     let together = ap (λ bytes. take from file ++ bytes) (sym brought) ∙ joined in
     record {
       inside = search rules;
       long = search rules;
-      given = subst (Consumes _ _) together (Consumes-trans _ _ _ _ _ c.loop-count.invariant.given c.read_some-reading.ensures.bytes);
+      given = subst (Consumes _ _) together (Consumes-trans _ _ _ _ _ c.loop-count.invariant.given c.in-Ok.ensures.bytes);
     }
+
+-- A read that failed gave nothing.
+pub returns-in_default-clause-bytes : goal.returns-in_default-clause-bytes
+returns-in_default-clause-bytes g c =
+    let part = c.read_some.new.part in
+    let file = c.loop-count.file in
+    let kept = take-put_mid_below _ _ _ _ _ (le_refl _) c.loop-count.invariant.inside in
+    let nothing : take c.in_default.field-0.count part ≡ [] = ap (λ n. take n part) c.in_default.ensures.cut in
+    subst (Consumes _ _) (append-nil (take c.loop-count.count file) ∙ sym kept)
+    (Consumes-trans _ _ _ _ _ c.loop-count.invariant.given (subst (Consumes _ _) nothing c.in_default.ensures.bytes))

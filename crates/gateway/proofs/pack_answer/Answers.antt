@@ -13,16 +13,16 @@ unfolding packed
 pack-requires c =
     omega (
       arith,
-      ap (λ n. n.kind) (c.outcome_numbers-numbers.ensures.replied ∙ ap (λ a. reply_numbers (reply_is a)) (sym c.in-Reported.is)),
+      ap (λ n. n.kind) (c.outcome_numbers-numbers.ensures.replied ∙ ap (λ a. reply_numbers (reply_is a)) (sym c.in-Ok.is)),
       kind_small (reply_is c.args.answer),
     )
 
-pub returns-in-Reported : goal.returns-in-Reported
+pub returns-in-Ok : goal.returns-in-Ok
 unfolding packed
-returns-in-Reported c = c.pack.ensures ∙ ap packed (c.outcome_numbers-numbers.ensures.replied
-    ∙ ap (λ a. reply_numbers (reply_is a)) (sym c.in-Reported.is))
+returns-in-Ok c = c.pack.ensures ∙ ap packed (c.outcome_numbers-numbers.ensures.replied
+    ∙ ap (λ a. reply_numbers (reply_is a)) (sym c.in-Ok.is))
 
-pub returns-in-Refused : goal.returns-in-Refused
+pub returns-in-Err : goal.returns-in-Err
 unfolding packed
-returns-in-Refused c = c.pack-in-Refused.ensures ∙ ap (λ number. 4 * 2 ^ 32 + (0 * 65536 + number)) c.refusal_number.ensures.replied
-    ∙ ap (λ answer. reply_number (reply_is answer)) (sym c.in-Refused.is)
+returns-in-Err c = c.pack-in-Err.ensures ∙ ap (λ number. 4 * 2 ^ 32 + (0 * 65536 + number)) c.refusal_number.ensures.replied
+    ∙ ap (λ answer. reply_number (reply_is answer)) (sym c.in-Err.is)

@@ -11,7 +11,6 @@ use Rattle.promises.specs.Lengths.{length_for}
 use Rattle.register.specs.Meaning.{needed_is}
 use Rattle.gateway.specs.Packed.{length_number}
 use Rattle.gateway.proofs.zidlemowo_length.Goals as goal
-use Rattle.gateway.proofs.zidlemowo_length.Goals.{In-Words}
 
 -- No register has more than 2,642 words.
 at_most : (m n k : ℕ) → some k ≡ length_for m n → k ≤ 2642
@@ -22,18 +21,5 @@ at_most m n k e = by (in_range m n)
     (λ out. absurd (some-ne-none k (rw out at e)))
 
 -- The length that the register answered.
-answered : (c : In-Words) → let args = c.args in some c.in-Words.count ≡ length_for args.m args.n
-answered c = ap needed_is (sym c.in-Words.is) ∙ c.words_needed.ensures.replied
-
 pub overflow_cast-result : goal.overflow_cast-result
-overflow_cast-result c = omega (arith, at_most _ _ _ (answered (goal.at.overflow_cast-result c).In-Words))
-
-pub returns-in-Words : goal.returns-in-Words
-returns-in-Words c = record { replied = ap length_number (answered (goal.at.returns-in-Words c).In-Words); left = refl }
-
-pub returns-in-Nothing : goal.returns-in-Nothing
-returns-in-Nothing c = let needed = c.words_needed in
-    record {
-      replied = ap (λ answer. length_number (needed_is answer)) (sym c.in-Nothing.is) ∙ ap length_number needed.ensures.replied;
-      left = refl;
-    }
+overflow_cast-result c = omega (arith, at_most _ _ _ (ap needed_is (sym c.in-Some.is) ∙ c.words_needed.ensures.replied))

@@ -1,8 +1,5 @@
 -- `judge::open` meets its promise: 20, 21, or a fresh ledger in front of the words.
-use mathlib.Core.Path.{◌≡◌, sym, ◌∙◌}
-use mathlib.Core.Bool.{true}
-use native.Mathlib.Omega.{arith}
-use lib.ListN.{length-set}
+use Rattle.std.proofs.Common.{◌≡◌, sym, ◌∙◌, true, arith, length-set}
 use Rattle.rules.specs.steps.Given.{wrong_counts}
 use Rattle.rules.specs.steps.Replies.{out_of_range}
 use Rattle.rules.specs.steps.Checks.{in_range}

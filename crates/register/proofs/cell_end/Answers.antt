@@ -47,29 +47,19 @@ fits c =
 pub returns-then-not-well_formed : goal.returns-then-not-well_formed
 returns-then-not-well_formed c = end_malformed _ _ (sym c.well_formed-2.ensures ∙ c.if-not-well_formed.true)
 
-pub bounds-words-0 : goal.bounds-words-0
-bounds-words-0 c = omega (arith, long (goal.at.bounds-words-0 c).Else-not-well_formed)
-
 pub returns-then-words-c : goal.returns-then-words-c
 returns-then-words-c c = end_beyond _ _ (formed (goal.at.returns-then-words-c c).Else-not-well_formed) (omega arith)
 
-pub bounds-words-0-2 : goal.bounds-words-0-2
-bounds-words-0-2 c = omega (arith, long (goal.at.bounds-words-0-2 c).Else-not-well_formed)
+pub cell_at-start-requires : goal.cell_at-start-requires
+cell_at-start-requires c = omega (arith, small (goal.at.cell_at-start-requires c).Else-words-c, inside (goal.at.cell_at-start-requires c).Else-words-c)
 
-pub overflow_cast-m : goal.overflow_cast-m
-overflow_cast-m c = omega (arith, small (goal.at.overflow_cast-m c).Else-words-c)
+pub returns : goal.returns
+returns c =
+    end_shown _ _ (formed (goal.at.returns c).Else-not-well_formed) (inside (goal.at.returns c).Else-words-c) c.cell_at-start.ensures.starts
+    (omega arith) c.version_shows-content.ensures.replied
 
-pub cell_at-span-requires : goal.cell_at-span-requires
-cell_at-span-requires c = omega (arith, small (goal.at.cell_at-span-requires c).Else-words-c, inside (goal.at.cell_at-span-requires c).Else-words-c)
-
-pub overflow_add-start : goal.overflow_add-start
-overflow_add-start c = omega (arith, small (goal.at.overflow_add-start c).Else-words-c)
-
-pub overflow_add-number : goal.overflow_add-number
-overflow_add-number c = omega (arith, small (goal.at.overflow_add-number c).Else-words-c)
-
-pub overflow_add-number-2 : goal.overflow_add-number-2
-overflow_add-number-2 c = omega (arith, small (goal.at.overflow_add-number-2 c).Else-words-c, inside (goal.at.overflow_add-number-2 c).Else-words-c)
+pub bounds-words-0 : goal.bounds-words-0
+bounds-words-0 c = omega (arith, long (goal.at.bounds-words-0 c).Else-not-well_formed)
 
 pub offset_bounds-words-start : goal.offset_bounds-words-start
 offset_bounds-words-start c =
@@ -78,16 +68,8 @@ offset_bounds-words-start c =
 pub bounds-words-start : goal.bounds-words-start
 bounds-words-start c = omega (arith, fits (goal.at.bounds-words-start c).Else-words-c, inside (goal.at.bounds-words-start c).Else-words-c)
 
-pub overflow_add-start-2 : goal.overflow_add-start-2
-overflow_add-start-2 c = omega (arith, small (goal.at.overflow_add-start-2 c).Else-words-c)
-
 pub offset_bounds-words-start-2 : goal.offset_bounds-words-start-2
 offset_bounds-words-start-2 c = omega (arith, small (goal.at.offset_bounds-words-start-2 c).Else-words-c)
 
 pub bounds-words-start-2 : goal.bounds-words-start-2
 bounds-words-start-2 c = omega (arith, fits (goal.at.bounds-words-start-2 c).Else-words-c)
-
-pub returns : goal.returns
-returns c =
-    end_shown _ _ (formed (goal.at.returns c).Else-not-well_formed) (inside (goal.at.returns c).Else-words-c) c.cell_at-span.ensures.starts
-    (omega arith) c.version_shows-content.ensures.replied

@@ -55,21 +55,12 @@ returns-then-not-in_range c = opening_out _ _ _ (sym c.in_range.ensures.replied 
 pub body_words-long-requires : goal.body_words-long-requires
 body_words-long-requires c = omega (arith, (range_tested _ _).0 (ranged (goal.at.body_words-long-requires c).Else-not-in_range))
 
-pub overflow_add-long : goal.overflow_add-long
-overflow_add-long c = omega (arith, small (goal.at.overflow_add-long c).After-body_words-long)
-
 pub returns-then-words-long : goal.returns-then-words-long
 returns-then-words-long c = opening_short _ _ _ (ranged (goal.at.returns-then-words-long c).Else-not-in_range) (omega (arith, c.body_words-long.ensures))
 
 pub clear-requires : goal.clear-requires
 clear-requires c = let words = c.args.words.now in
     rw (behind_is 2 words) (omega (arith, length-drop 2 words))
-
-pub bounds-words-0 : goal.bounds-words-0
-bounds-words-0 c = omega (arith, ap length (back (goal.at.bounds-words-0 c).After-clear))
-
-pub bounds-words-1 : goal.bounds-words-1
-bounds-words-1 c = simp length-set (omega (arith, ap length (back (goal.at.bounds-words-1 c).After-clear)))
 
 pub shape_of-words : goal.shape_of-words
 shape_of-words c = simp length-set (ap length (back (goal.at.shape_of-words c).After-clear)
@@ -86,3 +77,6 @@ returns c = let args = c.args in
     subst (λ words. OpeningPromise args.words.now args.m args.n ready (set (set words 0 args.m) 1 args.n)) (sym (back (goal.at.returns c).After-clear))
     (opening_ready args.words.now args.m args.n (ranged (goal.at.returns c).Else-not-in_range) (enough (goal.at.returns c).After-clear)
     (cleared_holds _ _ _ _ (cleared (goal.at.returns c).After-clear)))
+
+pub overflow_add-long : goal.overflow_add-long
+overflow_add-long c = omega (arith, small (goal.at.overflow_add-long c).After-body_words-long)

@@ -1,14 +1,10 @@
 -- `rows::row` meets its promise: the words are tested once, then the room, and then all steps are taken.
-use Prim.Native.Nat.{◌+◌, ◌*◌, ◌/◌}
-use mathlib.Core.Path.{◌≡◌, sym, ◌∙◌}
-use mathlib.Core.Bool.{true, false}
-use native.Mathlib.Omega.{arith}
-use lib.Dec.{ltb}
-use lib.ListN.{length}
-use borrow.Author.Tests.{ltb-false, not-true, not-false}
+use Rattle.std.proofs.Common.{◌≡◌, ◌+◌, ◌*◌, ◌/◌, true, false, ltb, ltb-false, length, sym, ◌∙◌}
+use Rattle.std.proofs.lemmas.Bool.{not-true, not-false}
 use Rattle.limits.specs.Limits.{step_width, report_width}
 use Rattle.layout.specs.WellFormed.{is_well_formed}
 use Rattle.layout.proofs.Tested.{tested}
+use Rattle.rows.proofs.Steps.{steps_count}
 use Rattle.rows.proofs.Rowing.{row_malformed, row_short, row_done}
 use Rattle.rows.proofs.row.Goals as goal
 use Rattle.rows.proofs.row.Goals.{Else-not-has_room, Else-not-well_formed}
@@ -34,9 +30,7 @@ take_steps-requires c = record {
   table_promise = c.plain_table-table.ensures;
   well_formed = (
     (tested _).0 (formed (goal.at.take_steps-requires c).Else-not-well_formed),
-    omega arith,
-    ltb-false _ _
-        (room (goal.at.take_steps-requires c).Else-not-has_room),
+    rw (steps_count c.args.steps.now) (ltb-false _ _ (room (goal.at.take_steps-requires c).Else-not-has_room)),
   );
 }
 

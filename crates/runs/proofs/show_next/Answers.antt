@@ -1,12 +1,9 @@
 -- `runs::show_next` meets its contract: a step is asked of the player, and its answer shown.
-use Rattle.runs.proofs.Shows.{shown_as, rejected_shown, over_shown, refused_shown, asked_shown}
+use Rattle.runs.proofs.Shows.{shown_as, nothing_shown, refused_shown, asked_shown}
 use Rattle.runs.proofs.show_next.Goals as goal
 
 pub returns-in-Rejected : goal.returns-in-Rejected
-returns-in-Rejected c = shown_as c.in-Rejected.is rejected_shown
-
-pub returns-in-Over : goal.returns-in-Over
-returns-in-Over c = shown_as c.in-Over.is over_shown
+returns-in-Rejected c = nothing_shown c.in-Rejected.is
 
 pub returns-in-Refused : goal.returns-in-Refused
 returns-in-Refused c = shown_as c.in-Refused.is refused_shown

@@ -1,15 +1,10 @@
--- `sheets::is_full` meets its contract: no count that was passed lies above the bound, and the first that does decides.
-use native.Mathlib.Omega.{arith}
-use borrow.Author.Count.{below_more}
-use borrow.Author.Tests.{ltb-false}
-use Rattle.sheets.proofs.Full.{not_full}
+-- `sheets::is_full` meets its contract: the counts of the sheet are asked one after another.
+use Rattle.std.proofs.Common.{◌≤◌, ◌<◌, rules}
+use Rattle.std.proofs.lemmas.Iterator.{cases_from_any, YieldsList-from_slice}
+use Rattle.sheets.specs.Sheets.{full_above}
+use Rattle.sheets.proofs.Full.{some_told}
 use Rattle.sheets.proofs.is_full.Goals as goal
 
-pub loop-place-init : goal.loop-place-init
-loop-place-init c = (omega arith, λ y h. absurd (omega arith))
-
-pub loop-place-preserved : goal.loop-place-preserved
-loop-place-preserved c = (omega arith, below_more _ _ c.loop-place.invariant.1 (omega (arith, ltb-false)))
-
 pub returns : goal.returns
-returns c = not_full _ (λ y h. c.loop-place.invariant.1 y (omega arith))
+returns c = some_told _ _ c.requires (cases_from_any _ _ _ (λ count. full_above < count) (λ count. count ≤ full_above) c.any.ensures.ran
+    (YieldsList-from_slice _ (search rules)) (λ count q called. search rules) (λ count q called. search rules))

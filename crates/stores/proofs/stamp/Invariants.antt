@@ -2,8 +2,5 @@
 use Rattle.stores.proofs.Stamping.{Stamps}
 use Rattle.stores.proofs.stamp.Given as goal
 
-abbrev pub invariant-loop-left : goal.invariant-loop-left
-invariant-loop-left l = Stamps l.m l.set l.left l.held l.initial.body l.body
-
-abbrev pub decreases-loop-left : goal.decreases-loop-left
-decreases-loop-left l = l.left
+abbrev pub invariant-loop-c : goal.invariant-loop-c
+invariant-loop-c l = Stamps l.m l.set l.c-iterator.left l.held l.initial.body l.body

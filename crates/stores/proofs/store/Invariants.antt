@@ -2,8 +2,5 @@
 use Rattle.stores.proofs.Storing.{Storing}
 use Rattle.stores.proofs.store.Given as goal
 
-abbrev pub invariant-loop-left : goal.invariant-loop-left
-invariant-loop-left l = Storing l.m l.set l.left l.copies l.held l.initial.body l.body
-
-abbrev pub decreases-loop-left : goal.decreases-loop-left
-decreases-loop-left l = l.left
+abbrev pub invariant-loop-c : goal.invariant-loop-c
+invariant-loop-c l = Storing l.m l.set l.c-iterator.left l.copies l.held l.initial.body l.body

@@ -1,12 +1,9 @@
 -- `summary::put_added` meets its promise: the name, what is said of it, and the end of the line.
-use native.Mathlib.Omega.{arith}
-use Rattle.text.proofs.Puts.{puts_both, puts_whole}
+use Rattle.std.proofs.Common.{◌∙◌, rules}
+use Rattle.text.proofs.Pages.{writes_both, page_whole}
 use Rattle.summary.proofs.put_added.Goals as goal
 
-pub returns : goal.returns
-returns c =
-    let front = puts_both c.put_name-named.ensures c.put_verdict-told.ensures.puts in
-    let whole = puts_whole (puts_both front c.put_text.ensures) in record {
-      added_text_promise = record { replied = whole.0; left = whole.1 };
-      upper_bound = omega (arith, c.put_name-named.ensures.ends, c.put_verdict-told.ensures.upper_bound, c.put_text.ensures.ends);
-    }
+pub returns-clause-added_text_promise : goal.returns-clause-added_text_promise
+returns-clause-added_text_promise c =
+    let line = writes_both (writes_both c.put_text.ensures c.put_verdict.ensures.puts) c.put_text-2.ensures in
+    let whole = page_whole c.new-page.ensures.front c.new-page.ensures.lent line in record { replied = whole.0; left = search rules ∙ whole.1 }

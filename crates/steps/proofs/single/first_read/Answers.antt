@@ -10,7 +10,7 @@ use Rattle.layout.proofs.Places.{cell_ends}
 use Rattle.words.specs.Sets.{found_is}
 use Rattle.steps.proofs.Lent.{block_lies, cells_lie, block_words, block_open}
 use Rattle.steps.proofs.Said.{read_among}
-use Rattle.steps.proofs.FirstReading.{torn_told, torn_takes, row_small, read_takes}
+use Rattle.steps.proofs.FirstReading.{torn_told, torn_takes, read_takes}
 use Rattle.steps.proofs.single.first_read.Goals as goal
 use Rattle.steps.proofs.single.first_read.Goals.{After-block_at-span, After-torn}
 
@@ -18,7 +18,7 @@ use Rattle.steps.proofs.single.first_read.Goals.{After-block_at-span, After-torn
 lies : (c : After-block_at-span) → let from = c.block_at-span.result.start in
     (from + handler_long c.args.m ≤ length c.args.body.now) × (from ≤ 2640) × (from ≤ c.block_at-span.result.end)
     × (c.block_at-span.result.end ≤ length c.args.body.now)
-    × (c.cell_at-cell.result.start + cell_long c.args.m ≤ from)
+    × (c.cell_at-first.result.start + cell_long c.args.m ≤ from)
 lies c =
     let seated = c.requires.ready.seated in
     omega (
@@ -26,7 +26,7 @@ lies c =
       block_lies seated c.block_at-span.ensures,
       cells_lie seated c.block_at-span.ensures,
       cell_ends c.args.m c.args.x c.requires.ready.cell,
-      c.cell_at-cell.ensures.starts,
+      c.cell_at-first.ensures.starts,
     )
 
 -- Where the transaction's numbers begin in the block.
@@ -39,25 +39,19 @@ answer : (c : After-torn) → let args = c.args in
     found_is c.torn.result ≡ torn_cell (word_setting args.m) (r.handlers args.i) (r.cells args.x)
 answer c =
     c.torn.ensures
-    ∙ torn_told c.requires c.cell_at-cell.ensures.starts c.block_at-span.ensures (placed c)
+    ∙ torn_told c.requires c.cell_at-first.ensures.starts c.block_at-span.ensures (placed c)
 
 -- Abort 1.
-pub returns-in-Cell : goal.returns-in-Cell
-returns-in-Cell c =
-    torn_takes c.requires c.cell_at-cell.ensures.starts c.block_at-span.ensures
-    (sym (answer (goal.at.returns-in-Cell c).After-torn) ∙ ap found_is c.in-Cell.is) c.rest.ensures
+pub returns-in-Some : goal.returns-in-Some
+returns-in-Some c =
+    torn_takes c.requires c.cell_at-first.ensures.starts c.block_at-span.ensures
+    (sym (answer (goal.at.returns-in-Some c).After-torn) ∙ ap found_is c.in-Some.is) c.rest.ensures
 
 -- The cell is read.
 pub returns : goal.returns
 returns c =
-    read_takes c.requires c.cell_at-cell.ensures.starts c.block_at-span.ensures c.copy_out-row.ensures
+    read_takes c.requires c.cell_at-first.ensures.starts c.block_at-span.ensures c.copy_out-row.ensures
     (sym (answer (goal.at.returns c).After-torn) ∙ ap found_is c.in_default.is) c.version_shows.ensures.replied c.join.ensures
-
-pub offset_bounds-body-start : goal.offset_bounds-body-start
-offset_bounds-body-start c = omega (arith, lies (goal.at.offset_bounds-body-start c).After-block_at-span)
-
-pub bounds-body-start : goal.bounds-body-start
-bounds-body-start c = omega (arith, lies (goal.at.bounds-body-start c).After-block_at-span)
 
 pub torn-requires : goal.torn-requires
 torn-requires c = (
@@ -67,42 +61,11 @@ torn-requires c = (
       (arith, lies (goal.at.torn-requires c).After-block_at-span),
 )
 
-pub offset_bounds-body-start-in-Cell : goal.offset_bounds-body-start-in-Cell
-offset_bounds-body-start-in-Cell c = omega (arith, lies (goal.at.offset_bounds-body-start-in-Cell c).After-block_at-span)
-
-pub slice_bounds-rest-end : goal.slice_bounds-rest-end
-slice_bounds-rest-end c = omega (arith, lies (goal.at.slice_bounds-rest-end c).After-block_at-span)
-
 pub rest-requires : goal.rest-requires
 rest-requires c = block_words c.requires.ready.seated c.block_at-span.ensures
-
-pub offset_bounds-body-first : goal.offset_bounds-body-first
-offset_bounds-body-first c = omega (arith, lies (goal.at.offset_bounds-body-first c).After-block_at-span)
-
-pub bounds-body-first : goal.bounds-body-first
-bounds-body-first c = omega (arith, lies (goal.at.bounds-body-first c).After-block_at-span)
-
-pub overflow_add-own : goal.overflow_add-own
-overflow_add-own c = omega (arith, lies (goal.at.overflow_add-own c).After-block_at-span, c.requires.ready.cell)
-
-pub offset_bounds-body-numbers : goal.offset_bounds-body-numbers
-offset_bounds-body-numbers c = omega (arith, lies (goal.at.offset_bounds-body-numbers c).After-block_at-span)
-
-pub bounds-body-numbers : goal.bounds-body-numbers
-bounds-body-numbers c = omega (arith, lies (goal.at.bounds-body-numbers c).After-block_at-span, c.requires.ready.cell)
 
 pub copy_out-row-requires : goal.copy_out-row-requires
 copy_out-row-requires c = (omega (arith, lies (goal.at.copy_out-row-requires c).After-block_at-span), c.requires.ready.seated.formed.few)
 
-pub offset_bounds-body-start-2 : goal.offset_bounds-body-start-2
-offset_bounds-body-start-2 c = omega (arith, lies (goal.at.offset_bounds-body-start-2 c).After-block_at-span)
-
-pub slice_bounds-join-end : goal.slice_bounds-join-end
-slice_bounds-join-end c = omega (arith, lies (goal.at.slice_bounds-join-end c).After-block_at-span)
-
 pub join-requires : goal.join-requires
-join-requires c = let ready = c.requires.ready in (
-  block_open ready.seated c.block_at-span.ensures ready.phase,
-  ready.cell,
-  row_small c.requires c.cell_at-cell.ensures.starts c.block_at-span.ensures c.copy_out-row.ensures,
-)
+join-requires c = let ready = c.requires.ready in (block_open ready.seated c.block_at-span.ensures ready.phase, ready.cell)

@@ -50,39 +50,21 @@ block : (c : After-block_at-span) → let args = c.args in
 block c = block_words c.requires.seated c.block_at-span.ensures
 
 -- Abort 2.
-pub returns-in-Cell : goal.returns-in-Cell
-returns-in-Cell c =
+pub returns-in-Some : goal.returns-in-Some
+returns-in-Some c =
     rest_takes c.requires.seated c.block_at-span.ensures
-    (try_overtaken _ _ _ _ (sym (read_answer (goal.at.returns-in-Cell c).After-overtaken) ∙ ap found_is c.in-Cell.is)) c.rest.ensures
+    (try_overtaken _ _ _ _ (sym (read_answer (goal.at.returns-in-Some c).After-overtaken) ∙ ap found_is c.in-Some.is)) c.rest.ensures
 
 -- Abort 3.
-pub returns-in-Cell-spent : goal.returns-in-Cell-spent
-returns-in-Cell-spent c =
+pub returns-in-Some-spent : goal.returns-in-Some-spent
+returns-in-Some-spent c =
     rest_takes c.requires.seated c.block_at-span.ensures
-    (try_spent _ _ _ _ (current (goal.at.returns-in-Cell-spent c).After-spent)
-    (sym (write_answer (goal.at.returns-in-Cell-spent c).After-spent) ∙ ap found_is c.in-Cell-spent.is)) c.rest-in-Cell-spent.ensures
-
-pub offset_bounds-body-start : goal.offset_bounds-body-start
-offset_bounds-body-start c = omega (arith, lies (goal.at.offset_bounds-body-start c).After-block_at-span)
-
-pub bounds-body-start : goal.bounds-body-start
-bounds-body-start c = omega (arith, lies (goal.at.bounds-body-start c).After-block_at-span)
-
-pub offset_bounds-body-start-2 : goal.offset_bounds-body-start-2
-offset_bounds-body-start-2 c = omega (arith, lies (goal.at.offset_bounds-body-start-2 c).After-block_at-span)
-
-pub bounds-body-start-2 : goal.bounds-body-start-2
-bounds-body-start-2 c = omega (arith, lies (goal.at.bounds-body-start-2 c).After-block_at-span)
+    (try_spent _ _ _ _ (current (goal.at.returns-in-Some-spent c).After-spent)
+    (sym (write_answer (goal.at.returns-in-Some-spent c).After-spent) ∙ ap found_is c.in-Some-spent.is)) c.rest-in-Some-spent.ensures
 
 pub overtaken-requires : goal.overtaken-requires
 overtaken-requires c =
     (read_among c.requires.seated c.block_at-span.ensures.starts, omega (arith, lies (goal.at.overtaken-requires c).After-block_at-span))
-
-pub offset_bounds-body-start-in-Cell : goal.offset_bounds-body-start-in-Cell
-offset_bounds-body-start-in-Cell c = omega (arith, lies (goal.at.offset_bounds-body-start-in-Cell c).After-block_at-span)
-
-pub slice_bounds-rest-end : goal.slice_bounds-rest-end
-slice_bounds-rest-end c = omega (arith, lies (goal.at.slice_bounds-rest-end c).After-block_at-span)
 
 pub rest-requires : goal.rest-requires
 rest-requires c = block (goal.at.rest-requires c).After-block_at-span
@@ -90,14 +72,8 @@ rest-requires c = block (goal.at.rest-requires c).After-block_at-span
 pub spent-requires : goal.spent-requires
 spent-requires c = written_among c.requires.seated c.block_at-span.ensures.starts
 
-pub offset_bounds-body-start-in-Cell-spent : goal.offset_bounds-body-start-in-Cell-spent
-offset_bounds-body-start-in-Cell-spent c = omega (arith, lies (goal.at.offset_bounds-body-start-in-Cell-spent c).After-block_at-span)
-
-pub slice_bounds-rest-end-in-Cell-spent : goal.slice_bounds-rest-end-in-Cell-spent
-slice_bounds-rest-end-in-Cell-spent c = omega (arith, lies (goal.at.slice_bounds-rest-end-in-Cell-spent c).After-block_at-span)
-
-pub rest-requires-in-Cell-spent : goal.rest-requires-in-Cell-spent
-rest-requires-in-Cell-spent c = block (goal.at.rest-requires-in-Cell-spent c).After-block_at-span
+pub rest-requires-in-Some-spent : goal.rest-requires-in-Some-spent
+rest-requires-in-Some-spent c = block (goal.at.rest-requires-in-Some-spent c).After-block_at-span
 
 pub returns : goal.returns
 returns c =

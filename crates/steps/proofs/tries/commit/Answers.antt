@@ -25,12 +25,6 @@ returns c =
     commits c.requires.seated c.block_at-span.ensures c.transaction_numbers.ensures c.copies.ensures
     c.stamp.ensures c.store.ensures c.settle.ensures
 
-pub offset_bounds-body-start : goal.offset_bounds-body-start
-offset_bounds-body-start c = omega (arith, lies (goal.at.offset_bounds-body-start c).After-block_at-span)
-
-pub bounds-body-start : goal.bounds-body-start
-bounds-body-start c = omega (arith, lies (goal.at.bounds-body-start c).After-block_at-span)
-
 pub stamp-requires : goal.stamp-requires
 stamp-requires c = let seated = c.requires.seated in
     (row_behind seated c.block_at-span.ensures c.transaction_numbers.ensures (omega arith) refl, raisable seated)
@@ -41,10 +35,6 @@ store-requires c = let seated = c.requires.seated in
       row_behind seated c.block_at-span.ensures c.transaction_numbers.ensures (omega arith) size,
       row_behind seated c.block_at-span.ensures c.copies.ensures (omega arith) size,
     )
-
-pub slice_bounds-settle-end : goal.slice_bounds-settle-end
-slice_bounds-settle-end c =
-    omega (arith, lies (goal.at.slice_bounds-settle-end c).After-block_at-span, stored_long (goal.at.slice_bounds-settle-end c).After-store)
 
 pub settle-requires : goal.settle-requires
 settle-requires c = block_of c.requires.seated c.block_at-span.ensures _ (stored_long (goal.at.settle-requires c).After-store)

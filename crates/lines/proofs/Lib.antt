@@ -1,0 +1,2 @@
+-- How long the number of a reason is.
+pub mod Reasons
