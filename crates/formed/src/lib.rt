@@ -28,12 +28,15 @@ fn cells_bits(bits: u32, body: &[u32], m: usize) -> u32
     requires { (m ≤ most_cells) × (body_long m 0 ≤ length body.now) }
     ensures { (result ≤ most_number) ↔ ((bits ≤ most_number) × ((c : ℕ) → c < m → Fit m (number_in (cell_part m body.now c)))) }
 {
-    let middle = places::cell_at(m, m / 2);
-    let beside = &body[middle.start..];
+    let long = places::cell_at(m, 0).end;
+    let ahead = places::cell_at(m, m / 2).start;
+    let beside = &body[ahead..];
     let mut over = bits;
+    let mut at = 0;
     for c in 0..(m + 1) / 2 {
-        let cell = places::cell_at(m, c);
-        over = span_bits(over, body, beside, cell.start + places::NUMBERS, cell.end);
+        let next = at + long;
+        over = span_bits(over, body, beside, at + places::NUMBERS, next);
+        at = next;
     }
     over
 }
