@@ -34,14 +34,19 @@ impl<'a> Page<'a> {
         self.end += 1;
     }
 
-    // Puts a text.
+    // Puts a text: at once where there is room for all of it, and else as much as there is room for.
     pub fn put_text(&mut self, text: &[u8])
         requires { self.old.end + length text.now ≤ farthest + 512 }
         ensures { Writes text.now self.old self.new }
     {
-        for &byte in text {
-            self.put_byte(byte);
+        let end = self.end + text.len();
+        if end <= self.buffer.len() {
+            self.buffer[self.end..end].copy_from_slice(text);
+        } else if self.end < self.buffer.len() {
+            let room = self.buffer.len() - self.end;
+            self.buffer[self.end..].copy_from_slice(&text[..room]);
         }
+        self.end = end;
     }
 
     // Puts a number in decimal.
