@@ -25,6 +25,7 @@ fn first_of<F: Fn(usize) -> bool>(set: u32, passes: F) -> Option<u8>
 }
 
 // The lowest cell of the set with a number in the row held that is below the one in the row of numbers.
+#[tactic(auto, using(crate::proofs::Cells::torn_is))]
 pub fn torn(body: &[u32], m: usize, set: u32, held: usize, numbers: usize) -> Option<u8>
     requires { Among m set body.now × (held + m ≤ length body.now) × (numbers + m ≤ length body.now) }
     ensures { found_is result ≡ lowest m (lower set body.now held numbers) }
