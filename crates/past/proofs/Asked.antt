@@ -18,9 +18,10 @@ module _ (m : ℕ) (words : List ℕ) where
     AddsCells c marks seen = Adds (past_after m words count i (deeds_of e c)) marks seen
 
     -- The handler's last commit is asked before the first cell.
-    pub adds_own : {marks seen : ℕ} → Adds (past_of_version m words (last_of (commits_in m words count) i)) marks seen → AddsCells 0 marks seen
+    pub adds_own : {own marks seen : ℕ} → own ≡ last_of (commits_in m words count) i → Adds (past_of_version m words own) marks seen
+        → AddsCells 0 marks seen
     unfolding deeds_of
-    adds_own adds = rw (own_past m words count i) at adds
+    adds_own last adds = rw (last, own_past m words count i) at adds
 
     -- One cell more is asked for its source.
     pub adds_cell : {marks seen after : ℕ} (c : ℕ) → AddsCells c marks seen

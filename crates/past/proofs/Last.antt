@@ -23,7 +23,8 @@ module _ (test : ℕ → Bool) (last : ℕ → ℕ) (none : last 0 ≡ 0) (newes
   passed_over (suc k) h fails = rw sub-one (sym (rw add-one at (older k (rw add-one fails))))
 
   module _ {F : Type 0} {g : Mut F (Bor ℕ × Unit {0}) Bool} (f : F)
-      (tells : (place : ℕ) (b : Bool) (q : F) → CalledAt g f place b q → (q ≡ f) × (b ≡ test place)) where
+      (tells : (place : ℕ) (b : Bool) (q : F) → CalledAt g f place b q → b ≡ test place)
+      (keeps : (place : ℕ) (b : Bool) (q : F) → CalledAt g f place b q → q ≡ f) where
     -- Whatever was passed before, the place at which the search ends is the last one.
     found : (passed : List ℕ) (s t u : Range ℕ) (q : F) (r : Option ℕ) (count : ℕ) → s.start ≡ 1 → s.end ≡ count + 1
         → Yields nat_range_steps_back s passed t → nat_range_steps_back t r u
@@ -33,15 +34,14 @@ module _ (test : ℕ → Bool) (last : ℕ → ℕ) (none : last 0 ≡ 0) (newes
     found [] s t u q (Some x) count from to goes stops folds end =
         let named : x ≡ count = omega (arith, ap (λ (z : Range ℕ). z.end) goes, stops.1) in
         let passes = tells x true end.0 (subst (λ p. CalledAt g p x true end.0) (sym folds) end.1) in
-        latest x (omega (arith, ap (λ (z : Range ℕ). z.start) goes, stops.1)) (sym passes.1) ∙ ap last named
+        latest x (omega (arith, ap (λ (z : Range ℕ). z.start) goes, stops.1)) (sym passes) ∙ ap last named
     found (x ∷ passed) s t u q r count from to goes stops folds end =
         let (next, step, more) = goes in
         let (p, call, rest) = folds in
-        let (kept, fails) = tells x false p call in
         let named : x ≡ count = omega (arith, step.1) in
         found passed next t u q r (x - 1) (step.0 ∙ from) (omega (arith, step.1)) more stops
-        (subst (λ k. FoldsTo (λ p x q. CalledAt g p x false q) k passed q) kept rest) end
-        ∙ passed_over x (omega (arith, step.1)) (sym fails) ∙ ap last named
+        (subst (λ k. FoldsTo (λ p x q. CalledAt g p x false q) k passed q) (keeps x false p call) rest) end
+        ∙ passed_over x (omega (arith, step.1)) (sym (tells x false p call)) ∙ ap last named
 
     -- The first place that passes, from the back, is the last one.
     pub last_found : (s u : Range ℕ) (r : Option ℕ) (count : ℕ) → s.start ≡ 1 → s.end ≡ count + 1 → FindsItem nat_range_steps_back g s f r u

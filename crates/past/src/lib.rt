@@ -14,7 +14,7 @@ ghost use Rattle.past.specs.Marks.{past_of_transaction, past_of_version, source_
 pub use rows::{History, Row};
 
 // A set of commits: the bit k for the commit at place k + 1.
-#[derive(Clone, Copy)]
+#[derive(Clone, Copy, Debug, PartialEq, Eq)]
 pub struct Marks(pub u64);
 
 #[tactic(auto, using(crate::proofs::Marking::marked_at, crate::proofs::Marking::adds_one), unfolding(layout::specs::Bits::has_bit))]

@@ -13,4 +13,4 @@ returns-clause-writer c m inside =
     let x = c.args.x in
     rw c.unwrap_or.ensures (last_found (λ place. (entry_in words (commit_row place)).written x) (λ count. writer (commits_in m words count) x)
     (writer_none m words x inside) (writer_wrote m words x inside) (writer_kept m words x inside)
-    _ (λ place b q call. search (rules, tests)) _ _ _ _ refl refl c.rfind.ensures.ran)
+    _ (λ place b q call. search (rules, tests)) (λ place b q call. search rules) _ _ _ _ refl refl c.rfind.ensures.ran)

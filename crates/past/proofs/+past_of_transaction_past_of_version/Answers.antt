@@ -19,7 +19,7 @@ past_of_transaction-past_of_version-seen-requires t c =
 -- Before the first cell.
 pub past_of_transaction-loop-c-init : goal.past_of_transaction-loop-c-init
 past_of_transaction-loop-c-init t c =
-    adds_own _ _ _ _ _ (rw (c.last_own-own.ensures c.args.m) at c.past_of_version-seen.ensures)
+    adds_own _ _ _ _ _ (c.last_own-own.ensures c.args.m) c.past_of_version-seen.ensures
 
 -- The version read is asked.
 pub past_of_transaction-past_of_version-seen-requires-in-loop-c :

@@ -14,4 +14,4 @@ returns c m =
     let i = c.args.handler in
     rw c.unwrap_or.ensures (last_found (λ place. eqb (entry_in words (commit_row place)).head i) (λ count. last_of (commits_in m words count) i)
     (last_none m words i) (λ k own. last_own m words k i (eqb-true _ i own)) (λ k other. last_other m words k i (eqb-false _ i other))
-    _ (λ place b q call. search (rules, tests)) _ _ _ _ refl refl c.rfind.ensures.ran)
+    _ (λ place b q call. search (rules, tests)) (λ place b q call. search rules) _ _ _ _ refl refl c.rfind.ensures.ran)
