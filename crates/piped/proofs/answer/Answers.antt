@@ -11,8 +11,7 @@ pub returns-clause-written : goal.returns-clause-written
 returns-clause-written g c =
     let file = c.read_file.new.file in
     let long_file : length file ≡ most_file_bytes + 1 = search rules in
-    let read = c.in_ok-count.ensures.front in
     let promise = c.put_text-long.ensures.text_promise in
     let stands = text_in_front _ _ _ _ _ promise.replied promise.left c.put_text-long.ensures.upper_bound c.room-buffer.ensures in
-    on_ok_weaker c.write_front.result (λ put. written_of_read _ _ _ (text_of c.args.player) _ _ _ _ (text_of_front c.args.player) read long_file stands put)
+    on_ok_weaker c.write_front.result (λ put. written_of_read _ _ _ (text_of c.args.player) _ _ _ _ (text_of_front c.args.player) (search rules) long_file stands put)
     c.write_front.ensures.written
